@@ -1,0 +1,5 @@
+pub mod Widths
+pub mod Constants
+pub mod Reading
+pub mod Instructions
+pub mod Examples
