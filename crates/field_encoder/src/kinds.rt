@@ -1,6 +1,8 @@
 // The instructions that bits 8 to 15 of a body number.
+ghost use Prim.Native.Nat.{_/_, _%_};
 ghost use mathlib.Core.Path.{_≡_};
-ghost use Rattle.field_encoder.specs.Kinds.{plainKind, memoryKind};
+ghost use Rattle.std.specs.declared.option.Option.the-variants.{Some};
+ghost use Rattle.field_encoder.specs.Kinds.{plainKind, plainBody, memoryKind, memoryBody};
 
 #[derive(Clone, Copy, PartialEq, Eq, Debug)]
 pub enum PlainKind {
@@ -21,6 +23,28 @@ pub enum MemoryKind {
     Address,
     // with an immediate byte
     Compare,
+}
+
+impl PlainKind {
+    // The body of that kind, with a register or 0 in its low byte.
+    pub fn body(self, low: u8) -> u32
+        ensures value { λ r. ⌜ r ≡ plainBody self low ⌝ }
+        ensures kind { λ r. ⌜ plainKind (r / 0x100) ≡ Some self ⌝ }
+        ensures low { λ r. ⌜ r % 0x100 ≡ low ⌝ }
+    {
+        0x100 * self as u32 + u32::from(low)
+    }
+}
+
+impl MemoryKind {
+    // The body of that kind, with a register or an immediate in its low byte.
+    pub fn body(self, low: u8) -> u32
+        ensures value { λ r. ⌜ r ≡ memoryBody self low ⌝ }
+        ensures kind { λ r. ⌜ memoryKind (r / 0x100) ≡ Some self ⌝ }
+        ensures low { λ r. ⌜ r % 0x100 ≡ low ⌝ }
+    {
+        0x100 * self as u32 + u32::from(low)
+    }
 }
 
 pub fn plain_kind(number: u32) -> Option<PlainKind>

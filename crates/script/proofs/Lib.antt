@@ -1,0 +1,5 @@
+mod Unlisted
+mod Numerals
+mod Characters
+mod Splits
+mod InstructionLines
