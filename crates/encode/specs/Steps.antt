@@ -15,7 +15,7 @@ use Rattle.script.specs.declared.line.Line.{Line}
 use Rattle.script.specs.declared.line.Line.the-variants.{Bits, At, Instruction}
 use Rattle.encode.specs.declared.answer.Answer.{Answer}
 use Rattle.encode.specs.declared.listing.Listing.{Listing}
-use Rattle.encode.specs.Answers.{answerOf}
+use Rattle.encode.specs.Answers.{answerOf, ReadsAs}
 use Rattle.encode.specs.Moves.{start, moved, moving}
 
 -- 64-bit code at address 0
@@ -41,3 +41,7 @@ Followed l (Some (Instruction i)) r m = (r ≡ Some (Some (answerTo l i))) × (m
 abbrev pub Stepped : Listing → Option (Option Line) → Option (Option Answer) → Listing → Type 0
 Stepped l None r m = (r ≡ None) × (m ≡ l)
 Stepped l (Some line) r m = Followed l line r m
+
+-- what is answered to an instruction reads as that instruction, in the bitness of the listing
+abbrev pub Understood : Listing → Option (Option Line) → Option (Option Answer) → Type 0
+Understood l line r = (i : Ins) (a : Answer) → line ≡ Some (Some (Instruction i)) → r ≡ Some (Some a) → ReadsAs (l .encoder .bits) i a

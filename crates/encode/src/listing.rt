@@ -2,16 +2,16 @@
 ghost use mathlib.Core.Path.{_≡_};
 ghost use Rattle.std.specs.Results.{okPart};
 ghost use Rattle.script.specs.Lines.{lineOf};
-ghost use Rattle.script.specs.Words.{wordsOf};
-ghost use Rattle.encode.specs.Steps.{opening, Stepped};
+ghost use Rattle.text.specs.Words.{wordsOf};
+ghost use Rattle.encode.specs.Steps.{opening, Stepped, Understood};
 use crate::answer::Answer;
 use crate::progress::Progress;
 use field_encoder::FieldEncode;
 use field_encoder::FieldEncoder;
 use field_encoder::FieldMeasure;
 use script::Line;
-use script::Problem;
 use script::read_line;
+use text::Problem;
 
 #[derive(Clone, Copy)]
 pub struct Listing {
@@ -31,7 +31,16 @@ impl Listing {
     }
 
     // Does what the line says, and answers an instruction.
+    // Does what the line says: an instruction is answered, `bits` and `at` move the listing, a line that cannot be read
+    // changes nothing.
     pub fn follow<'a>(&mut self, text: &'a str) -> Result<Option<Answer>, Problem<'a>>
+        ensures after { λ r. ⌜ Stepped (now (self .entry)) (lineOf (wordsOf (now (text .entry)))) (okPart r) (now (self .exit)) ⌝ }
+        ensures reads { λ r. ⌜ Understood (now (self .entry)) (lineOf (wordsOf (now (text .entry)))) (okPart r) ⌝ }
+    {
+        self.step(text)
+    }
+
+    fn step<'a>(&mut self, text: &'a str) -> Result<Option<Answer>, Problem<'a>>
         ensures after { λ r. ⌜ Stepped (now (self .entry)) (lineOf (wordsOf (now (text .entry)))) (okPart r) (now (self .exit)) ⌝ }
     {
         let Some(line) = read_line(text)? else {

@@ -6,10 +6,10 @@ mod progress;
 use answer::AnswerDisplay;
 use listing::Listing;
 use progress::ProgressDisplay;
-use script::problem::ProblemDisplay;
 use std::io;
 use std::io::BufRead;
 use std::io::BufReader;
+use text::problem::ProblemDisplay;
 
 fn main(rt: LibcRuntime) -> io::Result<()> {
     let mut listing = Listing::new();

@@ -1,5 +1,1 @@
-mod Unlisted
-mod Numerals
-mod Characters
-mod Splits
 mod InstructionLines

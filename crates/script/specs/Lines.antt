@@ -10,7 +10,10 @@ use Rattle.std.specs.declared.option.Option.{Option}
 use Rattle.std.specs.declared.option.Option.the-variants.{Some, None}
 use Rattle.std.specs.shelf.Text.{sameBytes}
 use Rattle.x86.specs.declared.instruction.Instruction.{Instruction}
+use Rattle.x86.specs.declared.instruction.Family.{Family}
 use Rattle.x86.specs.declared.instruction.Family.the-variants as family
+use Rattle.field_encoder.specs.declared.kinds.PlainKind.{PlainKind}
+use Rattle.field_encoder.specs.declared.kinds.MemoryKind.{MemoryKind}
 use Rattle.field_encoder.specs.Kinds.{plainBody, memoryBody}
 use Rattle.script.specs.declared.build.Branch.{Branch}
 use Rattle.script.specs.declared.build.Operand.{Operand}
@@ -21,7 +24,7 @@ use Rattle.script.specs.declared.mnemonic.Mnemonic.{Mnemonic}
 use Rattle.script.specs.declared.mnemonic.Mnemonic.the-variants.{Jcc, Jmp, Call, Plain, Memory, RawPlain, RawMemory, Other}
 use Rattle.script.specs.Built.{branching, pointing, standing, unknown}
 use Rattle.script.specs.Names.{mnemonicOf, hasRegister}
-use Rattle.script.specs.Phrases.{Phrase, chain, entire, meant, numberIn, upToIn, formIn, widthIn}
+use Rattle.text.specs.Phrases.{Phrase, chain, entire, meant, numberIn, upToIn, formIn, widthIn}
 
 -- `body N`, or 0 at the end of the line
 abbrev pub bodyIn : List (List ℕ) → Phrase ℕ
@@ -43,15 +46,29 @@ abbrev pub registerIn : Bool → List (List ℕ) → Phrase ℕ
 registerIn true ws = upToIn 0xFF ws
 registerIn false ws = Some (0, ws)
 
+abbrev pub branchLine : Family → ℕ → ℕ → List (List ℕ) → Phrase Instruction
+branchLine kin c old ws = chain (branchIn ws) (λ b rest. Some (branching kin c old b, rest))
+
+abbrev pub plainLine : PlainKind → ℕ → List (List ℕ) → Phrase Instruction
+plainLine k old ws = chain (registerIn (hasRegister k) ws) (λ r rest. Some (standing old (plainBody k r), rest))
+
+-- R or IMMEDIATE, WIDTH TARGET
+abbrev pub memoryLine : MemoryKind → ℕ → List (List ℕ) → Phrase Instruction
+memoryLine k old ws = chain (upToIn 0xFF ws) (λ r ws₁. chain (operandIn ws₁) (λ o rest. Some (pointing old (memoryBody k r) o, rest)))
+
+-- BODY WIDTH TARGET
+abbrev pub rawMemoryLine : ℕ → List (List ℕ) → Phrase Instruction
+rawMemoryLine old ws = chain (upToIn 0xFFFF_FFFF ws) (λ n ws₁. chain (operandIn ws₁) (λ o rest. Some (pointing old n o, rest)))
+
 -- what a mnemonic wants behind it
 abbrev pub statedIn : ℕ → Mnemonic → List (List ℕ) → Phrase Instruction
-statedIn old (Jcc c) ws = chain (branchIn ws) (λ b rest. Some (branching family.Jcc c old b, rest))
-statedIn old Jmp ws = chain (branchIn ws) (λ b rest. Some (branching family.Jmp 0 old b, rest))
-statedIn old Call ws = chain (branchIn ws) (λ b rest. Some (branching family.Call 0 old b, rest))
-statedIn old (Plain k) ws = chain (registerIn (hasRegister k) ws) (λ r rest. Some (standing old (plainBody k r), rest))
-statedIn old (Memory k) ws = chain (upToIn 0xFF ws) (λ r ws₁. chain (operandIn ws₁) (λ o rest. Some (pointing old (memoryBody k r) o, rest)))
+statedIn old (Jcc c) ws = branchLine family.Jcc c old ws
+statedIn old Jmp ws = branchLine family.Jmp 0 old ws
+statedIn old Call ws = branchLine family.Call 0 old ws
+statedIn old (Plain k) ws = plainLine k old ws
+statedIn old (Memory k) ws = memoryLine k old ws
 statedIn old RawPlain ws = chain (upToIn 0xFFFF_FFFF ws) (λ n rest. Some (standing old n, rest))
-statedIn old RawMemory ws = chain (upToIn 0xFFFF_FFFF ws) (λ n ws₁. chain (operandIn ws₁) (λ o rest. Some (pointing old n o, rest)))
+statedIn old RawMemory ws = rawMemoryLine old ws
 statedIn old Other ws = Some (unknown old, ws)
 
 -- OLD MNEMONIC ..

@@ -1,27 +1,17 @@
 -- What the words of a line stand for.
 use Prim.Native.Nat.{ℕ, _+_}
-use mathlib.Core.Bool.{Bool, true, false, cond}
+use mathlib.Core.Bool.{Bool, true, false}
 use mathlib.Core.List.{List, [], _∷_}
 use lib.Chars.{codes}
-use lib.Dec.{eqb}
 use Rattle.std.specs.declared.option.Option.{Option}
 use Rattle.std.specs.declared.option.Option.the-variants.{Some, None}
-use Rattle.std.specs.shelf.Text.{sameBytes}
-use Rattle.x86.specs.declared.instruction.Form.{Form}
-use Rattle.x86.specs.declared.instruction.Form.the-variants.{Short, Near}
-use Rattle.x86.specs.declared.instruction.Width.{Width}
-use Rattle.x86.specs.declared.instruction.Width.the-variants.{Bits16, Bits32, Bits64}
+use Rattle.text.specs.Tables.{lookup}
 use Rattle.script.specs.declared.mnemonic.Mnemonic.{Mnemonic}
 use Rattle.script.specs.declared.mnemonic.Mnemonic.the-variants.{Jcc, Jmp, Call, Plain, Memory, RawPlain, RawMemory, Other}
 use Rattle.field_encoder.specs.declared.kinds.PlainKind.{PlainKind}
 use Rattle.field_encoder.specs.declared.kinds.PlainKind.the-variants.{Nop, Ret, Int3, Push, Pop, Step}
 use Rattle.field_encoder.specs.declared.kinds.MemoryKind.{MemoryKind}
 use Rattle.field_encoder.specs.declared.kinds.MemoryKind.the-variants.{Load, Store, Address, Compare}
-
--- what the first entry under a word holds
-abbrev pub lookup : {X : Type 0} → List (List ℕ × X) → List ℕ → Option X
-lookup [] word = None
-lookup (entry ∷ entries) word = cond (sameBytes word (entry .0)) (Some (entry .1)) (lookup entries word)
 
 abbrev pub conditions : List (List ℕ)
 conditions =
@@ -60,12 +50,3 @@ hasRegister Int3 = false
 hasRegister Push = true
 hasRegister Pop = true
 hasRegister Step = true
-
-abbrev pub forms : List (List ℕ × Form)
-forms = (codes "short", Short) ∷ (codes "near", Near) ∷ []
-
-abbrev pub formOf : List ℕ → Option Form
-formOf word = lookup forms word
-
-abbrev pub widthOf : ℕ → Option Width
-widthOf bits = cond (eqb bits 16) (Some Bits16) (cond (eqb bits 32) (Some Bits32) (cond (eqb bits 64) (Some Bits64) None))

@@ -1,7 +1,6 @@
 // Instructions from what their lines state.
 ghost use mathlib.Core.Path.{_≡_};
 ghost use Rattle.script.specs.Built.{branching, pointing, standing, unknown};
-ghost use Rattle.x86.specs.declared.instruction.Family.the-variants.{Jcc, Jmp, Call};
 use x86::Family;
 use x86::Form;
 use x86::Instruction;
@@ -23,22 +22,25 @@ pub struct Operand {
     pub target: u64,
 }
 
-pub fn jcc(old_address: u64, condition: u8, stated: Branch) -> Instruction
-    ensures value { λ r. ⌜ r ≡ branching Jcc condition «old_address» stated ⌝ }
+// A jcc, jmp or call; the condition of the last two is 0.
+pub fn any_branch(family: Family, condition: u8, old_address: u64, stated: Branch) -> Instruction
+    ensures value { λ r. ⌜ r ≡ branching family condition «old_address» stated ⌝ }
 {
-    any_branch(Family::Jcc, condition, old_address, stated)
-}
-
-pub fn jmp(old_address: u64, stated: Branch) -> Instruction
-    ensures value { λ r. ⌜ r ≡ branching Jmp 0 «old_address» stated ⌝ }
-{
-    any_branch(Family::Jmp, 0, old_address, stated)
-}
-
-pub fn call(old_address: u64, stated: Branch) -> Instruction
-    ensures value { λ r. ⌜ r ≡ branching Call 0 «old_address» stated ⌝ }
-{
-    any_branch(Family::Call, 0, old_address, stated)
+    let Branch {
+        form,
+        width,
+        target,
+        body,
+    } = stated;
+    Instruction {
+        family,
+        condition,
+        form,
+        width,
+        body,
+        old_address,
+        target,
+    }
 }
 
 pub fn memory(old_address: u64, body: u32, operand: Operand) -> Instruction
@@ -74,25 +76,5 @@ pub fn other(old_address: u64) -> Instruction
         body: 0,
         old_address,
         target: 0,
-    }
-}
-
-fn any_branch(family: Family, condition: u8, old_address: u64, stated: Branch) -> Instruction
-    ensures value { λ r. ⌜ r ≡ branching family condition «old_address» stated ⌝ }
-{
-    let Branch {
-        form,
-        width,
-        target,
-        body,
-    } = stated;
-    Instruction {
-        family,
-        condition,
-        form,
-        width,
-        body,
-        old_address,
-        target,
     }
 }

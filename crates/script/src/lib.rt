@@ -1,15 +1,9 @@
-// Listings: reading the text of one line, and printing what a line answers.
-pub mod build;
-pub mod line;
-pub mod mnemonic;
-pub mod number;
-pub mod problem;
+// Listings: reading one line, and printing what it answers.
+mod build;
+mod line;
+mod mnemonic;
 pub mod show;
-pub mod words;
 
 pub use line::Line;
 pub use line::read_instruction;
 pub use line::read_line;
-pub use problem::Problem;
-pub use problem::Wanted;
-pub use words::Words;

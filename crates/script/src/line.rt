@@ -1,22 +1,23 @@
 // A line of a listing.
 ghost use mathlib.Core.Path.{_≡_};
 ghost use Rattle.std.specs.Results.{okPart};
-ghost use Rattle.script.specs.Lines.{bodyIn, branchIn, operandIn, statedIn, instructionOf, lineOf};
-ghost use Rattle.script.specs.Phrases.{told};
-ghost use Rattle.script.specs.Words.{wordsOf, left};
+ghost use Rattle.script.specs.Lines.{bodyIn, branchIn, operandIn, branchLine, plainLine, memoryLine, rawMemoryLine, statedIn, instructionOf, lineOf};
+ghost use Rattle.text.specs.Phrases.{told};
+ghost use Rattle.text.specs.Words.{wordsOf, left};
 use crate::build;
 use crate::build::Branch;
 use crate::build::Operand;
 use crate::mnemonic::Mnemonic;
 use crate::mnemonic::has_register;
-use crate::problem::Problem;
-use crate::problem::Wanted;
-use crate::words::Words;
+use field_encoder::kinds::MemoryKind;
+use field_encoder::kinds::PlainKind;
+use text::Problem;
+use text::Wanted;
+use text::Words;
+use x86::Family;
 use x86::Instruction;
-use x86::instruction::InstructionDebug;
-use x86::instruction::InstructionPartialEq;
 
-#[derive(Clone, Copy, PartialEq, Eq, Debug)]
+#[derive(Clone, Copy)]
 pub enum Line {
     // the bitness of the code from here on, which its encoder may not know
     Bits(u32),
@@ -58,6 +59,7 @@ pub fn read_instruction(text: &str) -> Result<Instruction, Problem<'_>>
     Ok(instruction)
 }
 
+// What the mnemonic wants behind it.
 fn stated<'a>(
     words: &mut Words<'a>,
     old_address: u64,
@@ -65,27 +67,62 @@ fn stated<'a>(
 ) -> Result<Instruction, Problem<'a>>
     ensures value { λ r. ⌜ told r (left (now (words .exit))) ≡ statedIn «old_address» mnemonic (left (now (words .entry))) ⌝ }
 {
-    Ok(
-        match mnemonic {
-            Mnemonic::Jcc(condition) => build::jcc(old_address, condition, branch(words)?),
-            Mnemonic::Jmp => build::jmp(old_address, branch(words)?),
-            Mnemonic::Call => build::call(old_address, branch(words)?),
-            Mnemonic::Plain(kind) => {
-                let register = if has_register(kind) { words.byte()? } else { 0 };
-                build::plain(old_address, kind.body(register))
-            }
-            Mnemonic::Memory(kind) => {
-                let low = words.byte()?;
-                build::memory(old_address, kind.body(low), operand(words)?)
-            }
-            Mnemonic::RawPlain => build::plain(old_address, words.number32()?),
-            Mnemonic::RawMemory => {
-                let body = words.number32()?;
-                build::memory(old_address, body, operand(words)?)
-            }
-            Mnemonic::Other => build::other(old_address),
-        },
-    )
+    match mnemonic {
+        Mnemonic::Jcc(condition) => stated_branch(words, Family::Jcc, condition, old_address),
+        Mnemonic::Jmp => stated_branch(words, Family::Jmp, 0, old_address),
+        Mnemonic::Call => stated_branch(words, Family::Call, 0, old_address),
+        Mnemonic::Plain(kind) => stated_plain(words, kind, old_address),
+        Mnemonic::Memory(kind) => stated_memory(words, kind, old_address),
+        Mnemonic::RawPlain => Ok(build::plain(old_address, words.number32()?)),
+        Mnemonic::RawMemory => raw_memory(words, old_address),
+        Mnemonic::Other => Ok(build::other(old_address)),
+    }
+}
+
+fn stated_branch<'a>(
+    words: &mut Words<'a>,
+    family: Family,
+    condition: u8,
+    old_address: u64,
+) -> Result<Instruction, Problem<'a>>
+    ensures value { λ r. ⌜ told r (left (now (words .exit))) ≡ branchLine family condition «old_address» (left (now (words .entry))) ⌝ }
+{
+    let stated = branch(words)?;
+    Ok(build::any_branch(family, condition, old_address, stated))
+}
+
+fn stated_plain<'a>(
+    words: &mut Words<'a>,
+    kind: PlainKind,
+    old_address: u64,
+) -> Result<Instruction, Problem<'a>>
+    ensures value { λ r. ⌜ told r (left (now (words .exit))) ≡ plainLine kind «old_address» (left (now (words .entry))) ⌝ }
+{
+    if !has_register(kind) {
+        return Ok(build::plain(old_address, kind.body(0)));
+    }
+    let register = words.byte()?;
+    Ok(build::plain(old_address, kind.body(register)))
+}
+
+fn stated_memory<'a>(
+    words: &mut Words<'a>,
+    kind: MemoryKind,
+    old_address: u64,
+) -> Result<Instruction, Problem<'a>>
+    ensures value { λ r. ⌜ told r (left (now (words .exit))) ≡ memoryLine kind «old_address» (left (now (words .entry))) ⌝ }
+{
+    let low = words.byte()?;
+    let operand = operand(words)?;
+    Ok(build::memory(old_address, kind.body(low), operand))
+}
+
+fn raw_memory<'a>(words: &mut Words<'a>, old_address: u64) -> Result<Instruction, Problem<'a>>
+    ensures value { λ r. ⌜ told r (left (now (words .exit))) ≡ rawMemoryLine «old_address» (left (now (words .entry))) ⌝ }
+{
+    let body = words.number32()?;
+    let operand = operand(words)?;
+    Ok(build::memory(old_address, body, operand))
 }
 
 fn branch<'a>(words: &mut Words<'a>) -> Result<Branch, Problem<'a>>

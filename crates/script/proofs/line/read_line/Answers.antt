@@ -4,7 +4,7 @@ use Rattle.std.proofs.shelf.Patterns.{starts-char}
 use Rattle.std.proofs.shelf.Results.{err-from-errBy}
 use Rattle.std.proofs.shelf.Ways.{not-from-decides}
 use Rattle.std.specs.Results.{okPart}
-use Rattle.script.specs.Words.{wordsOf}
+use Rattle.text.specs.Words.{wordsOf}
 use Rattle.script.proofs.InstructionLines.{refused-line}
 use Rattle.script.proofs.line.read_line.Needs as need
 

@@ -1,7 +1,7 @@
 use borrow.Author.Needs.{needs}
 use mathlib.Core.Path.{sym}
 use Rattle.script.specs.Names.{conditions, numbered}
-use Rattle.script.proofs.Unlisted.{unlisted}
+use Rattle.text.proofs.Unlisted.{unlisted}
 use Rattle.script.proofs.mnemonic.condition.Needs as need
 
 pub returns-in-rest : need.returns-in-rest

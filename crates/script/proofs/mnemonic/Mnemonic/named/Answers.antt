@@ -1,7 +1,8 @@
 use borrow.Author.Needs.{needs}
 use mathlib.Core.Path.{sym, ap, _∙_}
-use Rattle.script.specs.Names.{conditional, lookup, mnemonics}
-use Rattle.script.proofs.Unlisted.{unlisted}
+use Rattle.script.specs.Names.{conditional, mnemonics}
+use Rattle.text.specs.Tables.{lookup}
+use Rattle.text.proofs.Unlisted.{unlisted}
 use Rattle.script.proofs.mnemonic.Mnemonic.named.Needs as need
 
 pub returns-in-rest-word : need.returns-in-rest-word

@@ -1,5 +1,0 @@
-use Rattle.script.proofs.Splits.{takes}
-use Rattle.script.proofs.words.Words.next.Needs as need
-
-pub returns : need.returns
-returns c = record { value = takes _ _ (c .next .result) (c .next .ensures .steps) }

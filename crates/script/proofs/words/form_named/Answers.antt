@@ -1,8 +1,0 @@
-use borrow.Author.Needs.{needs}
-use mathlib.Core.Path.{sym}
-use Rattle.script.specs.Names.{forms}
-use Rattle.script.proofs.Unlisted.{unlisted}
-use Rattle.script.proofs.words.form_named.Needs as need
-
-pub returns-in-rest : need.returns-in-rest
-returns-in-rest c = record { value = sym (unlisted forms (c .args .word .now) (search needs)) }
