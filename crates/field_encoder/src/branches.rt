@@ -48,7 +48,7 @@ fn relative(bits: Width, width: Width, form: Form, opcode: [u8; 4], len: usize) 
 }
 
 // The draft of a branch, whatever its body; none for another family, and where the bitness has no such branch.
-pub fn branch(bits: Width, ins: &Instruction) -> Option<Draft>
+pub(crate) fn branch(bits: Width, ins: &Instruction) -> Option<Draft>
     ensures { λ d. ⌜ mapped drafted d ≡ branchShape [] bits (now (ins .entry) .family) (now (ins .entry) .condition) (now (ins .entry) .form) (now (ins .entry) .width) ⌝ }
 {
     if !has_branch(bits, ins.width) {

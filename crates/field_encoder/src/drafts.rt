@@ -6,7 +6,7 @@ use crate::draft::Draft;
 use encoder::Layout;
 
 impl Draft {
-    pub fn layout(&self) -> Layout<'_>
+    pub(crate) fn layout(&self) -> Layout<'_>
         ensures { λ r. ⌜ laid r ≡ drafted (now (self .entry)) ⌝ }
     {
         Layout {

@@ -1,5 +1,5 @@
 // The instructions that bits 8 to 15 of a body number.
-ghost use Prim.Native.Nat.{_/_, _%_};
+ghost use Prim.Native.Nat.{_+_, _*_, _/_, _%_, _<_};
 ghost use mathlib.Core.Path.{_≡_};
 ghost use Rattle.std.specs.declared.option.Option.the-variants.{Some};
 ghost use Rattle.field_encoder.specs.Kinds.{plainKind, plainBody, memoryKind, memoryBody};
@@ -25,6 +25,14 @@ pub enum MemoryKind {
     Compare,
 }
 
+// A kind's number above a low byte.
+fn numbered(kind: u32, low: u8) -> u32
+    requires { ⌜ kind < 0x100 ⌝ }
+    ensures value { λ r. ⌜ r ≡ 0x100 * kind + low ⌝ }
+{
+    0x100 * kind + u32::from(low)
+}
+
 impl PlainKind {
     // The body of that kind, with a register or 0 in its low byte.
     pub fn body(self, low: u8) -> u32
@@ -32,7 +40,7 @@ impl PlainKind {
         ensures kind { λ r. ⌜ plainKind (r / 0x100) ≡ Some self ⌝ }
         ensures low { λ r. ⌜ r % 0x100 ≡ low ⌝ }
     {
-        0x100 * self as u32 + u32::from(low)
+        numbered(self as u32, low)
     }
 }
 
@@ -43,11 +51,11 @@ impl MemoryKind {
         ensures kind { λ r. ⌜ memoryKind (r / 0x100) ≡ Some self ⌝ }
         ensures low { λ r. ⌜ r % 0x100 ≡ low ⌝ }
     {
-        0x100 * self as u32 + u32::from(low)
+        numbered(self as u32, low)
     }
 }
 
-pub fn plain_kind(number: u32) -> Option<PlainKind>
+pub(crate) fn plain_kind(number: u32) -> Option<PlainKind>
     ensures { λ r. ⌜ r ≡ plainKind number ⌝ }
 {
     match number {
@@ -61,7 +69,7 @@ pub fn plain_kind(number: u32) -> Option<PlainKind>
     }
 }
 
-pub fn memory_kind(number: u32) -> Option<MemoryKind>
+pub(crate) fn memory_kind(number: u32) -> Option<MemoryKind>
     ensures { λ r. ⌜ r ≡ memoryKind number ⌝ }
 {
     match number {

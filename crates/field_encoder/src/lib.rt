@@ -6,12 +6,12 @@ ghost use Rattle.field_encoder.specs.Drafted.{drafted};
 ghost use Rattle.field_encoder.specs.Makes.{madeBy};
 ghost use Rattle.field_encoder.specs.Shapes.{shape};
 
-pub mod branches;
-pub mod draft;
-pub mod drafts;
+mod branches;
+mod draft;
+mod drafts;
 pub mod kinds;
-pub mod memory;
-pub mod plain;
+mod memory;
+mod plain;
 
 use branches::branch;
 use draft::Draft;

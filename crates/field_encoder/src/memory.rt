@@ -58,7 +58,7 @@ fn compared_byte(width: Width, immediate: u8) -> Draft
 }
 
 // Is there such an operand?
-pub fn has_operand(bits: Width, width: Width) -> bool
+fn has_operand(bits: Width, width: Width) -> bool
     ensures { λ r. ⌜ r ≡ memoryWidth bits width ⌝ }
 {
     match (bits, width) {
@@ -67,7 +67,7 @@ pub fn has_operand(bits: Width, width: Width) -> bool
     }
 }
 
-pub fn memory_operand(bits: Width, width: Width, kind: MemoryKind, low: u8) -> Option<Draft>
+pub(crate) fn memory_operand(bits: Width, width: Width, kind: MemoryKind, low: u8) -> Option<Draft>
     ensures { λ d. ⌜ mapped drafted d ≡ memoryShape bits width kind low ⌝ }
 {
     if !has_operand(bits, width) {

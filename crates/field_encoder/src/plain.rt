@@ -63,7 +63,7 @@ fn step_bytes(bits: Width, r: u8) -> Option<Draft>
     }
 }
 
-pub fn plain_bytes(bits: Width, kind: PlainKind, low: u8) -> Option<Draft>
+pub(crate) fn plain_bytes(bits: Width, kind: PlainKind, low: u8) -> Option<Draft>
     ensures { λ d. ⌜ mapped drafted d ≡ plainShape bits kind low ⌝ }
 {
     match kind {

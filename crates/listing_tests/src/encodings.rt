@@ -3,6 +3,7 @@ use crate::tables;
 use encoder::Encoder;
 use encoder::Measure;
 use encoder::Refusal;
+use encoder::RefusalPartialEq;
 use field_encoder::FieldEncode;
 use field_encoder::FieldEncoder;
 use field_encoder::FieldMeasure;
@@ -20,24 +21,118 @@ use x86::Instruction;
 // What a row holds before it is written to.
 const MARK: u8 = 0xA5;
 
-// The bytes and their constants, behind which the row is as it was.
-fn encoded(
+// What the encoder answers, as a table has it. The rest of the row stays, all of it where it refuses, and the size is
+// as told before.
+fn answer(
     heap: Global,
     encoder: &FieldEncoder,
     ins: &Instruction,
     address: u64,
-) -> Result<Option<String>, Fail> {
+) -> Result<String, Fail> {
     let mut row = [MARK; 15];
-    let Ok((constants, size)) = encoder.encode(ins, ins.target, address, &mut row) else {
-        check_eq(row, [MARK; 15])?;
-        return Ok(None);
-    };
-    check_eq(encoder.size(ins), Some(size))?;
-    check(size <= 15)?;
-    for byte in &row[size..] {
-        check_eq(*byte, MARK)?;
+    let size = encoder.size(ins);
+    match encoder.encode(ins, ins.target, address, &mut row) {
+        Ok((constants, written)) => {
+            check_eq(size, Some(written))?;
+            check(written <= 15)?;
+            check_eq(&row[written..], &[MARK; 15][written..])?;
+            let bytes = Bytes(&row[0..written]);
+            let constants = Constants(constants);
+            Ok(format!(heap, "{bytes} constants {constants}")?)
+        }
+        Err(why) => {
+            check_eq(row, [MARK; 15])?;
+            check_eq(size.is_none(), why == Refusal::NoSize)?;
+            Ok(String::from_str(heap, shown(why))?)
+        }
     }
-    let bytes = Bytes(&row[0..size]);
-    let constants = Constants(constants);
-    Ok(Some(format!(heap, "{bytes} constants {constants}")?))
+}
+
+fn shown(why: Refusal) -> &'static str {
+    match why {
+        Refusal::NoSize => " no size",
+        Refusal::OutOfReach => " out of reach",
+    }
+}
+
+// One row: bitness, address and line, and the answer.
+fn holds(heap: Global, row: &str) -> Result<(), Fail> {
+    let (stated, expected) = row.split_once(" =>").ok_or("no answer")?;
+    let (bits, stated) = stated.split_once(' ').ok_or("no bitness")?;
+    let (address, line) = stated.split_once(' ').ok_or("no address")?;
+    let encoder = FieldEncoder::new(bits.parse::<u32>()?)?;
+    let address = u64::from_str_radix(address, 16)?;
+    match read_instruction(line) {
+        Ok(ins) => check_eq(answer(heap, &encoder, &ins, address)?.as_str(), expected).note(row),
+        Err(problem) => Err(Fail::new(problem)),
+    }
+}
+
+fn all_hold(heap: Global, table: &str) -> Result<(), Fail> {
+    for row in table.lines() {
+        if !row.is_empty() {
+            holds(heap, row)?;
+        }
+    }
+    Ok(())
+}
+
+#[test]
+fn listed(rt: LibcRuntime) -> Result<(), Fail> {
+    for table in [
+        tables::CONDITIONS,
+        tables::WIDTHS,
+        tables::PLAIN,
+        tables::OPERANDS,
+    ] {
+        all_hold(rt.alloc(), table)?;
+    }
+    Ok(())
+}
+
+#[test]
+fn reach(rt: LibcRuntime) -> Result<(), Fail> {
+    for table in [tables::SHORT, tables::NEAR, tables::WRAPPED] {
+        all_hold(rt.alloc(), table)?;
+    }
+    Ok(())
+}
+
+#[test]
+fn unlisted(rt: LibcRuntime) -> Result<(), Fail> {
+    all_hold(rt.alloc(), tables::UNLISTED)
+}
+
+// A listing cannot state these conditions.
+#[test]
+fn conditions_past_15(rt: LibcRuntime) -> Result<(), Fail> {
+    let encoder = FieldEncoder::new(64)?;
+    let Ok(jump) = read_instruction("1 jg near 64 0x2000") else {
+        return Err(Fail::new("a line"));
+    };
+    // 0x80 and 0x90 add up to 256 with the first opcodes
+    for condition in [16, 0x80, 0x90, 0xFF] {
+        let answer = answer(
+            rt.alloc(),
+            &encoder,
+            &Instruction { condition, ..jump },
+            0x1000,
+        )?;
+        check_eq(answer.as_str(), " no size")?;
+    }
+    Ok(())
+}
+
+#[test]
+fn bitnesses() -> Result<(), Fail> {
+    for bitness in [16, 32, 64] {
+        check(FieldEncoder::new(bitness).is_ok())?;
+    }
+    for bitness in [0, 15, 17, 31, 33, 48, 63, 65, 128, u32::MAX] {
+        match FieldEncoder::new(bitness) {
+            Ok(_) => return Err(Fail::new(bitness)),
+            Err(unknown) => check_eq(unknown.bitness, bitness)?,
+        }
+    }
+    Ok(())
 }
