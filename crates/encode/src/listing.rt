@@ -30,7 +30,6 @@ impl Listing {
         }
     }
 
-    // Does what the line says, and answers an instruction.
     // Does what the line says: an instruction is answered, `bits` and `at` move the listing, a line that cannot be read
     // changes nothing.
     pub fn follow<'a>(&mut self, text: &'a str) -> Result<Option<Answer>, Problem<'a>>

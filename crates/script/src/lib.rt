@@ -5,5 +5,4 @@ mod mnemonic;
 pub mod show;
 
 pub use line::Line;
-pub use line::read_instruction;
 pub use line::read_line;

@@ -47,7 +47,7 @@ pub fn read_line(text: &str) -> Result<Option<Line>, Problem<'_>>
 }
 
 // A line that begins with an old address.
-pub fn read_instruction(text: &str) -> Result<Instruction, Problem<'_>>
+fn read_instruction(text: &str) -> Result<Instruction, Problem<'_>>
     ensures value { λ r. ⌜ okPart r ≡ instructionOf (wordsOf (now (text .entry))) ⌝ }
 {
     let mut words = Words::new(text);

@@ -1,4 +1,4 @@
-// The field encoder, held to tables of encodings.
+// Listings, line by line, held to tables of answers.
 use crate::tables;
 use encoder::Encoder;
 use encoder::Measure;
@@ -8,7 +8,8 @@ use field_encoder::FieldEncode;
 use field_encoder::FieldEncoder;
 use field_encoder::FieldMeasure;
 use field_encoder::UnknownBitnessDebug;
-use script::read_instruction;
+use script::Line;
+use script::read_line;
 use script::show::Bytes;
 use script::show::BytesDisplay;
 use script::show::Constants;
@@ -55,59 +56,71 @@ fn shown(why: Refusal) -> &'static str {
     }
 }
 
-// One row: bitness, address and line, and the answer.
-fn holds(heap: Global, row: &str) -> Result<(), Fail> {
-    let (stated, expected) = row.split_once(" =>").ok_or("no answer")?;
-    let (bits, stated) = stated.split_once(' ').ok_or("no bitness")?;
-    let (address, line) = stated.split_once(' ').ok_or("no address")?;
-    let encoder = FieldEncoder::new(bits.parse::<u32>()?)?;
-    let address = u64::from_str_radix(address, 16)?;
-    match read_instruction(line) {
-        Ok(ins) => check_eq(answer(heap, &encoder, &ins, address)?.as_str(), expected).note(row),
-        Err(problem) => Err(Fail::new(problem)),
+// What a line answers where the encoder stands at the address.
+fn told(
+    heap: Global,
+    encoder: &mut FieldEncoder,
+    address: &mut u64,
+    line: &str,
+) -> Result<String, Fail> {
+    match read_line(line) {
+        Ok(None) => Ok(String::from_str(heap, " nothing")?),
+        Ok(Some(Line::Bits(bits))) => {
+            let Ok(other) = FieldEncoder::new(bits) else {
+                return Ok(String::from_str(heap, " no such bitness")?);
+            };
+            *encoder = other;
+            Ok(format!(heap, " bits {bits}")?)
+        }
+        Ok(Some(Line::At(place))) => {
+            *address = place;
+            Ok(format!(heap, " at {place}")?)
+        }
+        Ok(Some(Line::Instruction(ins))) => answer(heap, encoder, &ins, *address),
+        Err(problem) => Ok(format!(heap, " {problem}")?),
     }
 }
 
-fn all_hold(heap: Global, table: &str) -> Result<(), Fail> {
+// Each line has the answer behind its arrow; a line without one only moves on.
+fn holds(heap: Global, table: &str) -> Result<(), Fail> {
+    let mut encoder = FieldEncoder::new(64)?;
+    let mut address = 0;
     for row in table.lines() {
-        if !row.is_empty() {
-            holds(heap, row)?;
+        if let Some((line, expected)) = row.split_once(" =>") {
+            check_eq(
+                told(heap, &mut encoder, &mut address, line)?.as_str(),
+                expected,
+            ).note(row)?;
+        } else {
+            let _ = told(heap, &mut encoder, &mut address, row)?;
         }
     }
     Ok(())
 }
 
 #[test]
-fn listed(rt: LibcRuntime) -> Result<(), Fail> {
+fn tables_hold(rt: LibcRuntime) -> Result<(), Fail> {
     for table in [
         tables::CONDITIONS,
         tables::WIDTHS,
         tables::PLAIN,
         tables::OPERANDS,
+        tables::SHORT,
+        tables::NEAR,
+        tables::WRAPPED,
+        tables::UNLISTED,
+        tables::LINES,
     ] {
-        all_hold(rt.alloc(), table)?;
+        holds(rt.alloc(), table)?;
     }
     Ok(())
-}
-
-#[test]
-fn reach(rt: LibcRuntime) -> Result<(), Fail> {
-    for table in [tables::SHORT, tables::NEAR, tables::WRAPPED] {
-        all_hold(rt.alloc(), table)?;
-    }
-    Ok(())
-}
-
-#[test]
-fn unlisted(rt: LibcRuntime) -> Result<(), Fail> {
-    all_hold(rt.alloc(), tables::UNLISTED)
 }
 
 // A listing cannot state these conditions.
 #[test]
 fn conditions_past_15(rt: LibcRuntime) -> Result<(), Fail> {
     let encoder = FieldEncoder::new(64)?;
-    let Ok(jump) = read_instruction("1 jg near 64 0x2000") else {
+    let Ok(Some(Line::Instruction(jump))) = read_line("1 jg near 64 0x2000") else {
         return Err(Fail::new("a line"));
     };
     // 0x80 and 0x90 add up to 256 with the first opcodes
