@@ -6,7 +6,7 @@ use x86::Form;
 use x86::Instruction;
 use x86::Width;
 
-#[derive(Clone, Copy, PartialEq, Eq, Debug)]
+#[derive(Clone, Copy)]
 pub enum Field {
     Absent,
     Byte,

@@ -4,7 +4,7 @@ ghost use mathlib.Core.Path.{_≡_};
 ghost use Rattle.std.specs.declared.option.Option.the-variants.{Some};
 ghost use Rattle.field_encoder.specs.Kinds.{plainKind, plainBody, memoryKind, memoryBody};
 
-#[derive(Clone, Copy, PartialEq, Eq, Debug)]
+#[derive(Clone, Copy)]
 pub enum PlainKind {
     Nop,
     Ret,
@@ -15,7 +15,7 @@ pub enum PlainKind {
     Step,
 }
 
-#[derive(Clone, Copy, PartialEq, Eq, Debug)]
+#[derive(Clone, Copy)]
 pub enum MemoryKind {
     Load,
     Store,

@@ -33,7 +33,7 @@ pub struct FieldEncoder {
 }
 
 // Refusal 1: a field encoder has 16, 32 or 64 bits, and not these.
-#[derive(Clone, Copy, PartialEq, Eq, Debug)]
+#[derive(Clone, Copy, Debug)]
 pub struct UnknownBitness {
     pub bitness: u32,
 }

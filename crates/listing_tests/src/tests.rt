@@ -10,13 +10,13 @@ use field_encoder::FieldMeasure;
 use field_encoder::UnknownBitnessDebug;
 use script::Line;
 use script::read_line;
-use script::show::Bytes;
-use script::show::BytesDisplay;
-use script::show::Constants;
-use script::show::ConstantsDisplay;
 use std::alloc::Global;
 use std::test::*;
 use text::problem::ProblemDisplay;
+use text::show::Bytes;
+use text::show::BytesDisplay;
+use text::show::Constants;
+use text::show::ConstantsDisplay;
 use x86::Instruction;
 
 // What a row holds before it is written to.

@@ -1,8 +1,7 @@
-// Listings: reading one line, and printing what it answers.
+// Listings: what one line says.
 mod build;
 mod line;
 mod mnemonic;
-pub mod show;
 
 pub use line::Line;
 pub use line::read_line;
