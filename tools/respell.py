@@ -19,8 +19,8 @@ DECLARED = re.compile(rf"^\s*(?:{WORDS}\s+)*([^:(){{}}]+?)\s+:\s")
 
 
 def generated(path):
-    """Is it a file of answers, whose declarations are named by Rattle?"""
-    return path.name in ("Answers.antt", "Invariants.antt", "Proof.antt")
+    """Is it a file of answers in proofs/F/, whose declarations are named by Rattle?"""
+    return "proofs" in path.parts and path.name in ("Answers.antt", "Invariants.antt", "Proof.antt")
 
 
 def snake(name):

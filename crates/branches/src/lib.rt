@@ -1,4 +1,6 @@
 // Relative branches, jcc, jmp and call, as every encoder here writes them.
+#![tactic(auto)]
+
 mod draft;
 mod drafts;
 mod relative;

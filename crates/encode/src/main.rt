@@ -1,4 +1,6 @@
 // Encodes the instructions of a listing, each as its line states it.
+#![tactic(auto)]
+
 use listing::Listing;
 use std::io;
 use std::io::{BufRead, BufReader};

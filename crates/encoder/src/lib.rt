@@ -1,4 +1,6 @@
 // What any measure and any encoder mean, and how an encoding is laid out and written.
+#![tactic(auto)]
+
 ghost use Rattle.std.specs.Prelude.{◌≡◌, ℕ, Option};
 ghost use Rattle.x86.specs.declared.instruction.Instruction.{Instruction};
 ghost use Rattle.x86.specs.declared.instruction.Width.{Width};

@@ -1,4 +1,6 @@
 // The field encoder: branches, and the plain and memory instructions that a body numbers.
+#![tactic(auto)]
+
 ghost use Rattle.std.specs.Prelude.{◌≡◌};
 ghost use Rattle.std.specs.Option.{option_map};
 ghost use Rattle.encoder.specs.Layouts.{size_of, code_of};

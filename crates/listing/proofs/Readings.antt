@@ -12,11 +12,11 @@ use Rattle.script.specs.declared.line.Line.{Line}
 use Rattle.script.specs.declared.line.Line.TheVariants.{Instruction}
 use Rattle.listing.specs.declared.answer.Answer.{Answer}
 use Rattle.listing.specs.declared.listing.Listing.{Listing}
-use Rattle.listing.specs.Answers.{answerAt, ReadsAs}
+use Rattle.listing.specs.Answers.{answer_at, ReadsAs}
 use Rattle.listing.specs.Steps.{answer_to, Stepped, Understood}
 
 answer_reads : (mode : Width) (i : Ins) (a : ℕ) (size : Option ℕ) (code : Option Encoding)
-    → ((x : Encoding) → code ≡ Some x → Reads mode i i.target a x) → ReadsAs mode i (answerAt a size code)
+    → ((x : Encoding) → code ≡ Some x → Reads mode i i.target a x) → ReadsAs mode i (answer_at a size code)
 answer_reads mode i a size (Some x) h =
     subst (λ bs. Reads mode i i.target a (record { bytes = bs; constants = x.constants }))
     (sym (take_at x.bytes (drop (length x.bytes) (replicate 15 0)) (length x.bytes) refl)) (h x refl)

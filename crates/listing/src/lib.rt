@@ -1,4 +1,6 @@
 // A listing, followed line by line: the instructions that its lines state, encoded one after another.
+#![tactic(auto)]
+
 pub mod answer;
 pub mod listing;
 pub mod progress;

@@ -1,4 +1,6 @@
 // Listings: what one line says.
+#![tactic(auto)]
+
 mod build;
 mod line;
 mod mnemonic;

@@ -2,8 +2,7 @@
 use Rattle.std.proofs.Common.{◌≡◌, ℕ, zero, suc, ◌+◌, ◌-◌, ◌*◌, ◌/◌, ◌%◌, ◌<◌, ◌≤◌, cond, ltb, List, [], ◌∷◌, ◌++◌, sym, refl, ap, ◌∙◌, inl, inr, append_assoc, arith}
 use lib.Utf8.{encode, encodes}
 use Rattle.std.proofs.lemmas.Bool.{cases_lt, cond-true, cond-false, lt-ltb, le-ltb}
-use Rattle.std.specs.shelf.Text.{bytes_after, lead_bits, chars_after}
-use Rattle.std.specs.Str.{chars}
+use Rattle.std.specs.Str.{continuation_len, lead_bits, chars_after, chars}
 
 below : {X : Type 0} (a b : ℕ) (x y : X) → a < b → cond (ltb a b) x y ≡ x
 below a b x y h = cond-true (ltb a b) x y (lt-ltb a b h)
@@ -16,12 +15,12 @@ unfolding chars
 whole c [] = refl
 whole c (b ∷ bs) = refl
 
-led : (a n v : ℕ) (bs : List ℕ) → bytes_after a ≡ n → lead_bits a ≡ v → chars (a ∷ bs) ≡ chars_after n v bs
+led : (a n v : ℕ) (bs : List ℕ) → continuation_len a ≡ n → lead_bits a ≡ v → chars (a ∷ bs) ≡ chars_after n v bs
 unfolding chars
 led a n v bs p q = ap (λ m. chars_after m (lead_bits a) bs) p ∙ ap (λ w. chars_after n w bs) q
 
 -- one lead byte and its followers, which spell the character v
-spelt : (a n v : ℕ) (bs rest : List ℕ) (c : ℕ) → encode c ≡ a ∷ bs → bytes_after a ≡ n → lead_bits a ≡ v
+spelt : (a n v : ℕ) (bs rest : List ℕ) (c : ℕ) → encode c ≡ a ∷ bs → continuation_len a ≡ n → lead_bits a ≡ v
     → chars_after n v (bs ++ rest) ≡ c ∷ chars rest → chars (encode c ++ rest) ≡ c ∷ chars rest
 spelt a n v bs rest c e p q more = ap (λ l. chars (l ++ rest)) e ∙ (led a n v (bs ++ rest) p q ∙ more)
 

@@ -1,4 +1,6 @@
 // The text of one line: its words, the numbers that they write, what can be wrong with it, and how answers are shown.
+#![tactic(auto)]
+
 pub mod number;
 pub mod problem;
 pub mod show;

@@ -5,5 +5,5 @@ use Rattle.encoder.proofs.displacement.displacement_to.Goals as goal
 
 pub returns : goal.returns
 returns c =
-    to_z-of_z w64 c.signed-low.result (record { sfits = c.signed-low.type-inv })
-    ∙ (c.signed-low.ensures ∙ displacement_is c.args.width c.args.target (c.args.address + c.args.size))
+    to_z-of_z w64 c.signed_low.result (record { sfits = c.signed_low.type_inv })
+    ∙ (c.signed_low.ensures ∙ displacement_is c.args.width c.args.target (c.args.address + c.args.size))

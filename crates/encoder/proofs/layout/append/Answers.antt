@@ -11,6 +11,6 @@ returns c =
     record {
       value = refl;
       after =
-          ap (λ y. take at row ++ (y ++ drop k (drop at row))) c.copy-from-slice.ensures.after
+          ap (λ y. take at row ++ (y ++ drop k (drop at row))) c.copy_from_slice.ensures.after
           ∙ ap (λ x. take at row ++ (bs ++ x)) (drop-drop k at row ∙ ap (λ n. drop n row) (omega arith));
     }

@@ -5,7 +5,7 @@ use Rattle.script.specs.Lines.{body_in}
 use Rattle.text.proofs.Unlisted.{apart}
 use Rattle.script.proofs.line.body.Goals as goal
 
-pub returns-in-default-word : goal.returns-in-default-word
-returns-in-default-word c =
+pub returns-in_default-word : goal.returns-in_default-word
+returns-in_default-word c =
     let word = c.in-Some.word.now in
-    record { value = sym (ap body_in c.in-Some.ensures.value ∙ cond-false (bytes_eq word (codes "body")) _ _ (apart word (codes "body") c.in-default-word.not-IsBody)) }
+    record { value = sym (ap body_in c.in-Some.ensures.value ∙ cond-false (bytes_eq word (codes "body")) _ _ (apart word (codes "body") c.in_default-word.not-body)) }

@@ -8,6 +8,6 @@ use Rattle.text.proofs.number.numeral.Goals as goal
 pub returns : goal.returns
 returns c =
     let digits = c.args.digits.now in
-    let starts = starts_char 43 digits c.starts-with.result c.starts-with.ensures.cases (omega arith) (omega arith) in
-    let unsigned = without_leading_plus_none digits (not_from_Decides c.starts-with.result starts c.if-starts-with.false) in
-    record { value = c.ok.ensures.value ∙ numeral_read c.args.base digits c.from-str-radix.result (rw unsigned at c.from-str-radix.ensures.value) }
+    let starts = starts_char 43 digits c.starts_with.result c.starts_with.ensures.cases (omega arith) (omega arith) in
+    let unsigned = without_leading_plus_none digits (not_from_Decides c.starts_with.result starts c.if-starts_with.false) in
+    record { value = c.ok.ensures.value ∙ numeral_read c.args.base digits c.from_str_radix.result (rw unsigned at c.from_str_radix.ensures.value) }

@@ -3,5 +3,5 @@ use Rattle.text.specs.Tables.{forms}
 use Rattle.text.proofs.Unlisted.{unlisted}
 use Rattle.text.proofs.words.form_named.Goals as goal
 
-pub returns-in-default : goal.returns-in-default
-returns-in-default c = record { value = sym (unlisted forms c.args.word.now (search rules)) }
+pub returns-in_default : goal.returns-in_default
+returns-in_default c = record { value = sym (unlisted forms c.args.word.now (search rules)) }

@@ -8,7 +8,7 @@ use Rattle.encoder.proofs.layout.Layout.size.Goals as goal
 pub returns-then-size-le15 : goal.returns-then-size-le15
 returns-then-size-le15 c =
     let n = total c.args.ins.now (laid c.args.self.now) in
-    let m = c.saturating-add-size.result in
+    let m = c.saturating_add-size.result in
     let f = ap field_size c.of.ensures in
     let l = length-append c.args.self.now.prefixes.now c.args.self.now.opcode.now in
     sized_some n m (omega arith) c.if-size-ge1.true c.if-size-le15.true
@@ -18,4 +18,4 @@ returns-else-size-ge1 c =
     let n = total c.args.ins.now (laid c.args.self.now) in
     let f = ap field_size c.of.ensures in
     let l = length-append c.args.self.now.prefixes.now c.args.self.now.opcode.now in
-    sized_none n c.saturating-add-size.result (omega arith) c.else-size-ge1.either
+    sized_none n c.saturating_add-size.result (omega arith) c.else-size-ge1.either

@@ -27,11 +27,11 @@ append-at-requires c = omega (arith, room c.args.ins.now c.args.self.now c.of-fi
 pub append-at-requires-2 : goal.append-at-requires-2
 append-at-requires-2 c = omega (arith, c.append-at.ensures.value, room c.args.ins.now c.args.self.now c.of-field.result c.in-Some.size c.in-Some.ensures c.of-field.ensures)
 
-pub append-field-at-requires : goal.append-field-at-requires
-append-field-at-requires c = omega (arith, c.append-at.ensures.value, c.append-at-2.ensures.value, room c.args.ins.now c.args.self.now c.of-field.result c.in-Some.size c.in-Some.ensures c.of-field.ensures)
+pub append_field-at-requires : goal.append_field-at-requires
+append_field-at-requires c = omega (arith, c.append-at.ensures.value, c.append-at-2.ensures.value, room c.args.ins.now c.args.self.now c.of-field.result c.in-Some.size c.in-Some.ensures c.of-field.ensures)
 
 pub append-requires : goal.append-requires
-append-requires c = omega (arith, c.append-at.ensures.value, c.append-at-2.ensures.value, c.append-field-at.ensures.value, room c.args.ins.now c.args.self.now c.of-field.result c.in-Some.size c.in-Some.ensures c.of-field.ensures)
+append-requires c = omega (arith, c.append-at.ensures.value, c.append-at-2.ensures.value, c.append_field-at.ensures.value, room c.args.ins.now c.args.self.now c.of-field.result c.in-Some.size c.in-Some.ensures c.of-field.ensures)
 
 pub returns : goal.returns
 returns c =
@@ -40,17 +40,17 @@ returns c =
     let n = c.in-Some.size in
     let size : size_of i (Some (laid l)) ≡ Some n = sym c.in-Some.ensures in
     let f = c.of-field.result in
-    let d = c.displacement-to-displacement.result in
-    let back = to_z-of_z w64 d (record { sfits = c.displacement-to-displacement.type-inv }) in
+    let d = c.displacement_to-displacement.result in
+    let back = to_z-of_z w64 d (record { sfits = c.displacement_to-displacement.type_inv }) in
     let near : fits f d ≡ true = sym (c.holds.ensures ∙ ap (fits f) back) ∙ c.if-not-holds.false in
-    let code = code_filled i (laid l) c.args.target c.args.address n f d size c.of-field.ensures c.displacement-to-displacement.ensures near in
+    let code = code_filled i (laid l) c.args.target c.args.address n f d size c.of-field.ensures c.displacement_to-displacement.ensures near in
     let row = parts_put f l.prefixes.now l.opcode.now l.tail.now d c.args.row.now
-    c.append-at.new.row c.append-at-2.new.row c.append-field-at.new.row c.append.new.row
-    c.append-at.result c.append-at-2.result c.append-field-at.result
+    c.append-at.new.row c.append-at-2.new.row c.append_field-at.new.row c.append.new.row
+    c.append-at.result c.append-at-2.result c.append_field-at.result
     c.append-at.ensures.after c.append-at.ensures.value
     c.append-at-2.ensures.after c.append-at-2.ensures.value
-    (c.append-field-at.ensures.after ∙ ap (λ d. put c.append-at-2.new.row c.append-at-2.result (field_bytes f d)) back)
-    c.append-field-at.ensures.value c.append.ensures.after in
+    (c.append_field-at.ensures.after ∙ ap (λ d. put c.append-at-2.new.row c.append-at-2.result (field_bytes f d)) back)
+    c.append_field-at.ensures.value c.append.ensures.after in
     let bytes = ap (λ f. (l.prefixes.now ++ l.opcode.now) ++ (field_bytes f d ++ l.tail.now)) c.of-field.ensures in
     let long : n ≡ length (filled i (laid l) d).bytes = sym (length_filled i (laid l) d ∙ (sized i (laid l) n size).is) in
     record {
