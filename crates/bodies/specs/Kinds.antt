@@ -1,5 +1,5 @@
 -- The instructions that a body numbers in its bits 8 to 15, and the bodies that number them.
-use Rattle.std.specs.Prelude.{ℕ, ◌+◌, List, [], ◌∷◌, Option}
+use Rattle.std.specs.Prelude.{ℕ, ◌+◌, [], ◌∷◌, Option}
 use Rattle.std.specs.List.{slice_get}
 use Rattle.bodies.specs.declared.PlainKind.{PlainKind}
 use Rattle.bodies.specs.declared.PlainKind.TheVariants.{Nop, Ret, Int3, Push, Pop, Step}

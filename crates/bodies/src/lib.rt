@@ -1,6 +1,7 @@
 // The plain and memory instructions that the field encoder's bodies number: a kind in bits 8 to 15, and a register or an
 // immediate in bits 0 to 7.
 #![tactic(auto)]
+
 ghost use Rattle.std.specs.Prelude.{◌≡◌, ◌+◌, ◌*◌, ◌/◌, ◌%◌, ◌<◌, Some};
 ghost use Rattle.bodies.specs.Kinds.{plain_kind, plain_body, memory_kind, memory_body};
 

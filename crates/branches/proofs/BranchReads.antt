@@ -1,23 +1,20 @@
 -- Branches behind prefixes of their own, read by the manual.
-use Rattle.std.proofs.Common.{◌≡◌, ℕ, ◌+◌, ◌-◌, ◌/◌, ◌%◌, ◌≤◌, Bool, true, false, cond, ◌&&◌, ◌||◌, eqb, leb, List, [], ◌∷◌, ◌++◌, length, ℤ, pos, ◌+ℤ◌, Some, None, Option, sym, refl, ap, ◌∙◌, append_assoc, arith, length-append, w8, w64, of_z, leb-true}
+use Rattle.std.proofs.Common.{◌≡◌, ℕ, ◌+◌, ◌-◌, ◌/◌, ◌%◌, ◌≤◌, true, false, cond, ◌||◌, eqb, List, [], ◌∷◌, ◌++◌, length, ℤ, pos, ◌+ℤ◌, Some, None, refl, ap, ◌∙◌, append_assoc, arith, length-append, w8}
 use mir.Syntax.{Width as Span}
 use Rattle.std.proofs.lemmas.List.{append-nil}
-use Rattle.std.proofs.lemmas.Bool.{and_parts}
 use Rattle.std.proofs.lemmas.Bool.Decides.{nat_tests}
-use Rattle.x86.specs.declared.instruction.Family.{Family}
-use Rattle.x86.specs.declared.instruction.Family.TheVariants.{Jcc, Jmp, Call, Memory, Plain, Other}
+use Rattle.x86.specs.declared.instruction.Family.TheVariants.{Jcc, Jmp, Call}
 use Rattle.x86.specs.declared.instruction.Form.{Form}
 use Rattle.x86.specs.declared.instruction.Form.TheVariants.{Short, Near}
 use Rattle.x86.specs.declared.instruction.Width.{Width}
 use Rattle.x86.specs.declared.instruction.Width.TheVariants.{Bits16, Bits32, Bits64}
-use Rattle.x86.specs.Widths.{span, residue, low}
+use Rattle.x86.specs.Widths.{span, residue}
 use Rattle.x86.specs.Constants.{immediate_at}
-use Rattle.x86.specs.Reading.{Transfer, jcc, jmp, call, relative, near_field, opcode, two_bytes, is_branch_prefix, behind_prefixes, resized, operand_size, read}
-use Rattle.encoder.specs.declared.field.Field.{Field}
+use Rattle.x86.specs.Reading.{Transfer, jcc, jmp, call, relative, near_field, opcode, is_branch_prefix, behind_prefixes, resized, operand_size}
 use Rattle.encoder.specs.Fields.{branch_field, field_size, fits, displacement}
-use Rattle.encoder.specs.Encodings.{Encoding, BranchReads}
-use Rattle.encoder.specs.Laws.{branch_width, possible_by, is_near}
-use Rattle.encoder.specs.Layouts.{Shape, field_bytes}
+use Rattle.encoder.specs.Encodings.{BranchReads}
+use Rattle.encoder.specs.Laws.{branch_width}
+use Rattle.encoder.specs.Layouts.{field_bytes}
 use Rattle.encoder.proofs.Options.{false_true, if_true}
 use Rattle.encoder.proofs.Shapes.{length_field}
 use Rattle.encoder.proofs.Fields.{byte_back, word_back, double_back}

@@ -1,5 +1,5 @@
 -- The bytes of a field read as the displacement that they were made of.
-use Rattle.std.proofs.Common.{◌≡◌, ℕ, zero, suc, ◌+◌, ◌-◌, ◌*◌, ◌/◌, ◌%◌, ◌^◌, ◌<◌, ◌≤◌, true, ℤ, pos, negsuc, sym, refl, ap, ◌∙◌, mod-eq_of_lt, suc-mul, pow-suc, arith, lit<, pow_pos, w8, w16, w32, w64, to_z, of_z, ltb-true}
+use Rattle.std.proofs.Common.{◌≡◌, ℕ, zero, suc, ◌+◌, ◌-◌, ◌*◌, ◌/◌, ◌%◌, ◌^◌, ◌<◌, true, ℤ, pos, negsuc, sym, refl, ap, ◌∙◌, mod-eq_of_lt, suc-mul, pow-suc, arith, lit<, w8, w16, w32, w64, to_z, of_z, ltb-true}
 use native.Mathlib.Nat.{mul-add-mod_self_right, one-le-pow}
 use lib.Arith.{mod-mul}
 use lib.Pow.{pow-lt}

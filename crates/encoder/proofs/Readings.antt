@@ -1,14 +1,12 @@
 -- A filled shape with a memory operand, read by the manual.
-use Rattle.std.proofs.Common.{◌≡◌, ℕ, ◌+◌, Bool, true, cond, ◌&&◌, eqb, leb, List, ◌++◌, length, take, drop, pos, ◌+ℤ◌, Some, None, refl, ap, ◌∙◌, arith, length-append, w32, w64, of_z}
+use Rattle.std.proofs.Common.{◌≡◌, ℕ, ◌+◌, true, cond, ◌&&◌, eqb, leb, List, ◌++◌, length, take, drop, pos, ◌+ℤ◌, Some, None, refl, ap, ◌∙◌, arith, length-append, w32, w64, of_z}
 use Rattle.std.proofs.lemmas.List.{drop_at}
 use Rattle.std.proofs.lemmas.Bool.Decides.{nat_tests}
 use Rattle.x86.specs.declared.instruction.Width.{Width}
-use Rattle.x86.specs.declared.instruction.Instruction.{Instruction}
 use Rattle.x86.specs.Widths.{span, residue, low, bytes_of}
 use Rattle.x86.specs.Reading.{landing, narrowed, address_size, operand}
-use Rattle.encoder.specs.declared.field.Field.TheVariants.{Double}
-use Rattle.encoder.specs.Fields.{field_of, field_size, signed, displacement}
-use Rattle.encoder.specs.Layouts.{Shape, total, filled}
+use Rattle.encoder.specs.Fields.{signed, displacement}
+use Rattle.encoder.specs.Layouts.{Shape}
 use Rattle.encoder.proofs.Wraps.{arrives}
 use Rattle.encoder.proofs.Fields.{double_back}
 

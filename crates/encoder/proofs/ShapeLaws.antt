@@ -1,5 +1,5 @@
 -- An encoder that says no more than what its shapes are: every law follows from a few facts about them.
-use Rattle.std.proofs.Common.{◌≡◌, ℕ, ◌+◌, ◌≤◌, Bool, true, false, cond, ◌&&◌, leb, List, ◌++◌, length, is_some, Some, None, Option, sym, refl, ap, ◌∙◌, subst}
+use Rattle.std.proofs.Common.{◌≡◌, ℕ, ◌+◌, ◌≤◌, Bool, true, false, cond, ◌&&◌, leb, ◌++◌, length, is_some, Some, None, Option, sym, refl, ap, ◌∙◌, subst}
 use Rattle.x86.specs.declared.instruction.Family.TheVariants.{Memory, Plain}
 use Rattle.x86.specs.declared.instruction.Form.{Form}
 use Rattle.x86.specs.declared.instruction.Form.TheVariants.{Short, Near}
@@ -8,7 +8,7 @@ use Rattle.x86.specs.declared.instruction.Width.TheVariants.{Bits32, Bits64}
 use Rattle.x86.specs.declared.instruction.Instruction.{Instruction}
 use Rattle.x86.specs.Instructions.{shaped, formed, widened}
 use Rattle.encoder.specs.declared.field.Field.{Field}
-use Rattle.encoder.specs.declared.field.Field.TheVariants.{Absent, Double}
+use Rattle.encoder.specs.declared.field.Field.TheVariants.{Absent}
 use Rattle.encoder.specs.Fields.{field_by, field_of, field_size, fits, displacement, reaches}
 use Rattle.encoder.specs.Encodings.{Encoding, Reads}
 use Rattle.encoder.specs.Laws.{possible, MeasureLaws, EncoderLaws}

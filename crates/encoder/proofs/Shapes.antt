@@ -1,12 +1,11 @@
 -- Sizes and codes of shapes.
-use Rattle.std.proofs.Common.{◌≡◌, ℕ, ◌+◌, ◌-◌, ◌^◌, ◌<◌, ◌≤◌, min, Bool, true, false, cond, ◌&&◌, leb, ◌⊎◌, List, ◌++◌, length, ℤ, is_some, Some, None, Option, sym, refl, ap, ◌∙◌, subst, inl, inr, arith, length-append, leb-true}
+use Rattle.std.proofs.Common.{◌≡◌, ℕ, ◌+◌, ◌-◌, ◌^◌, ◌<◌, ◌≤◌, min, true, cond, ◌&&◌, leb, ◌⊎◌, length, ℤ, Some, None, sym, refl, ap, ◌∙◌, subst, inl, inr, arith, length-append, leb-true}
 use Rattle.std.proofs.lemmas.Bool.Decides.{nat_tests}
 use Rattle.std.proofs.lemmas.Bool.{and_parts}
 use Rattle.x86.specs.declared.instruction.Instruction.{Instruction}
 use Rattle.encoder.specs.declared.field.Field.{Field}
 use Rattle.encoder.specs.declared.field.Field.TheVariants.{Absent, Byte, Word, Double}
 use Rattle.encoder.specs.Fields.{field_of, field_size, fits, displacement, reaches}
-use Rattle.encoder.specs.Encodings.{Encoding}
 use Rattle.encoder.proofs.Options.{let_through}
 use Rattle.encoder.specs.Layouts.{Shape, field_bytes, total, size_of, filled, written, code_of}
 

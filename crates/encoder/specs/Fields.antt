@@ -1,5 +1,5 @@
 -- Displacements, and the fields that hold them.
-use Rattle.std.specs.Prelude.{ℕ, ◌+◌, ◌^◌, Bool, true, false, ℤ, pos, ◌-ℤ◌, nat_lt}
+use Rattle.std.specs.Prelude.{ℕ, ◌+◌, ◌^◌, Bool, true, ℤ, pos, ◌-ℤ◌, nat_lt}
 use Rattle.std.specs.Int.Signed.{mag}
 use mir.Val.{hbits}
 use Rattle.std.specs.Int.{int_wrap, Width as Span, w8, w16, w32}

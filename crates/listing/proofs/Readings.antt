@@ -1,5 +1,5 @@
 -- What a listing answers reads back.
-use Rattle.std.proofs.Common.{◌≡◌, ℕ, List, length, drop, replicate, Some, None, Option, sym, refl, ap, ◌∙◌, subst}
+use Rattle.std.proofs.Common.{◌≡◌, ℕ, length, drop, replicate, Some, None, Option, sym, refl, subst}
 use Rattle.std.proofs.lemmas.List.{take_at}
 use Rattle.x86.specs.declared.instruction.Instruction.{Instruction as Ins}
 use Rattle.x86.specs.declared.instruction.Width.{Width}
@@ -9,7 +9,6 @@ use Rattle.encoder.proofs.ShapeLaws.{encoder_laws}
 use Rattle.field_encoder.specs.Shapes.{shape}
 use Rattle.field_encoder.specs.FieldShapes.{field_shapes}
 use Rattle.script.specs.declared.line.Line.{Line}
-use Rattle.script.specs.declared.line.Line.TheVariants.{Instruction}
 use Rattle.listing.specs.declared.answer.Answer.{Answer}
 use Rattle.listing.specs.declared.listing.Listing.{Listing}
 use Rattle.listing.specs.Answers.{answer_at, ReadsAs}

@@ -5,7 +5,6 @@ use Rattle.script.specs.declared.mnemonic.Mnemonic.{Mnemonic}
 use Rattle.script.specs.declared.mnemonic.Mnemonic.TheVariants.{Jcc, Jmp, Call, Plain, Memory, RawPlain, RawMemory, Other}
 use Rattle.bodies.specs.declared.PlainKind.{PlainKind}
 use Rattle.bodies.specs.declared.PlainKind.TheVariants.{Nop, Ret, Int3, Push, Pop, Step}
-use Rattle.bodies.specs.declared.MemoryKind.{MemoryKind}
 use Rattle.bodies.specs.declared.MemoryKind.TheVariants.{Load, Store, Address, Compare}
 
 abbrev pub conditions : List (List ℕ)

@@ -1,6 +1,6 @@
 -- What `split_whitespace` gives are the words of the text.
 use Rattle.std.proofs.Common.{◌≡◌, ℕ, ◌<◌, true, List, [], ◌∷◌, ◌++◌, length, Some, None, Option, sym, refl, ap, ◌∙◌, subst, append_assoc, append-nil, arith, Bor, MatchOption}
-use lib.Utf8.{encode, encodes}
+use lib.Utf8.{encodes}
 use Rattle.std.proofs.lemmas.Bool.{cond-true, cond-false, not-false}
 use Rattle.std.proofs.lemmas.Str.{chars-nil}
 use Rattle.std.specs.Char.{is_whitespace, is_not_whitespace}

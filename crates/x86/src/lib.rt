@@ -1,5 +1,6 @@
 // The records that every layer shares, and what bytes mean by Intel's manual.
 #![tactic(auto)]
+
 ghost use Rattle.x86.specs.Examples.{ManualExamples};
 
 pub mod constant_offsets;
