@@ -4,8 +4,9 @@
 use listing::Listing;
 use std::io;
 use std::io::{BufRead, BufReader};
+use std::process::ExitCode;
 
-fn main(rt: HostRuntime) -> io::Result<()> {
+fn main(rt: HostRuntime) -> io::Result<ExitCode> {
     let mut listing = Listing::new();
     for (place, line) in BufReader::new(rt.alloc(), rt.stdin())?
         .lines(rt.alloc())
@@ -18,9 +19,10 @@ fn main(rt: HostRuntime) -> io::Result<()> {
             Err(problem) => {
                 let number = place + 1;
                 eprintln!(rt; "line {number}: {problem}")?;
-                return Err(io::ErrorKind::InvalidData.into());
+                return Ok(ExitCode::FAILURE);
             }
         }
     }
-    rt.println(listing.progress)
+    rt.println(listing.progress)?;
+    Ok(ExitCode::SUCCESS)
 }

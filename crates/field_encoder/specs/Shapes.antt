@@ -14,7 +14,7 @@ use Rattle.bodies.specs.declared.PlainKind.TheVariants.{Nop, Ret, Int3, Push, Po
 use Rattle.bodies.specs.declared.MemoryKind.{MemoryKind}
 use Rattle.bodies.specs.declared.MemoryKind.TheVariants.{Load, Store, Address, Compare}
 use Rattle.bodies.specs.Kinds.{plain_kind, memory_kind}
-use Rattle.branches.specs.Shapes.{branch_shape}
+pub use Rattle.branches.specs.Shapes.{size_prefix, opcode_of, branch_bytes, is_branch, branch_shape}
 
 abbrev pub plain_bytes : List ℕ → Shape
 plain_bytes bs = record { head = bs; tail = []; constants = no_constants }

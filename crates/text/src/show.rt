@@ -32,17 +32,7 @@ impl<'a> fmt::Display for Bytes<'a> {
 
 impl fmt::Display for Constants {
     fn fmt<W: fmt::Write>(&self, f: &mut fmt::Formatter<W>) -> fmt::Result {
-        let ConstantOffsets {
-            displacement_offset,
-            displacement_size,
-            immediate_offset,
-            immediate_size,
-            immediate_offset2,
-            immediate_size2,
-        } = self.0;
-        write!(
-            f,
-            "{displacement_offset},{displacement_size},{immediate_offset},{immediate_size},{immediate_offset2},{immediate_size2}"
-        )
+        let constants = self.0;
+        write!(f, "{constants}")
     }
 }
