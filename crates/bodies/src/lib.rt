@@ -2,8 +2,35 @@
 // immediate in bits 0 to 7.
 #![tactic(auto)]
 
-ghost use Rattle.std.specs.Prelude.{◌≡◌, ◌+◌, ◌*◌, ◌/◌, ◌%◌, ◌<◌, Some};
-ghost use Rattle.bodies.specs.Kinds.{plain_kind, plain_body, memory_kind, memory_body};
+ghost use Rattle.std.specs.Prelude.{◌≡◌, ℕ, ◌+◌, ◌*◌, ◌/◌, ◌%◌, ◌<◌, Some, Option};
+ghost use Rattle.bodies.specs.Kinds.{KindLaws, plain_kind, plain_number, plain_body, plain_laws, memory_kind, memory_number, memory_body, memory_laws};
+
+// Instructions that a body numbers in its bits 8 to 15.
+pub trait Kind: Copy {
+    ghost kind_of: { ℕ → Option Self };
+
+    ghost number_of: { Self → ℕ };
+
+    ghost body_of: { Self → ℕ → ℕ };
+
+    // The kind of that number, if one has it.
+    fn numbered(number: u32) -> Option<Self>
+        ensures { result ≡ kind_of number };
+
+    fn number(self) -> u8
+        ensures { result ≡ number_of self };
+
+    ghost laws: { KindLaws kind_of number_of body_of };
+
+    // The body of that kind, with a register, an immediate or 0 in its low byte.
+    final fn body(self, low: u8) -> u32
+        ensures value { result ≡ body_of self low }
+        ensures kind { kind_of (result / 0x100) ≡ Some self }
+        ensures low { result % 0x100 ≡ low }
+    {
+        0x100 * u32::from(self.number()) + u32::from(low)
+    }
+}
 
 #[derive(Clone, Copy)]
 pub enum PlainKind {
@@ -26,18 +53,16 @@ pub enum MemoryKind {
     Compare,
 }
 
-// A kind's number above a low byte.
-fn body_of(kind: u32, low: u8) -> u32
-    requires { kind < 0x100 }
-    ensures value { result ≡ 0x100 * kind + low }
-{
-    0x100 * kind + u32::from(low)
-}
+impl Kind for PlainKind {
+    ghost kind_of = { plain_kind };
 
-impl PlainKind {
-    pub fn numbered(number: u32) -> Option<PlainKind>
-        ensures { result ≡ plain_kind number }
-    {
+    ghost number_of = { plain_number };
+
+    ghost body_of = { plain_body };
+
+    ghost laws = { plain_laws };
+
+    fn numbered(number: u32) -> Option<PlainKind> {
         match number {
             0 => Some(PlainKind::Nop),
             1 => Some(PlainKind::Ret),
@@ -49,20 +74,21 @@ impl PlainKind {
         }
     }
 
-    // The body of that kind, with a register or 0 in its low byte.
-    pub fn body(self, low: u8) -> u32
-        ensures value { result ≡ plain_body self low }
-        ensures kind { plain_kind (result / 0x100) ≡ Some self }
-        ensures low { result % 0x100 ≡ low }
-    {
-        body_of(self as u32, low)
+    fn number(self) -> u8 {
+        self as u8
     }
 }
 
-impl MemoryKind {
-    pub fn numbered(number: u32) -> Option<MemoryKind>
-        ensures { result ≡ memory_kind number }
-    {
+impl Kind for MemoryKind {
+    ghost kind_of = { memory_kind };
+
+    ghost number_of = { memory_number };
+
+    ghost body_of = { memory_body };
+
+    ghost laws = { memory_laws };
+
+    fn numbered(number: u32) -> Option<MemoryKind> {
         match number {
             0 => Some(MemoryKind::Load),
             1 => Some(MemoryKind::Store),
@@ -72,12 +98,7 @@ impl MemoryKind {
         }
     }
 
-    // The body of that kind, with a register or an immediate in its low byte.
-    pub fn body(self, low: u8) -> u32
-        ensures value { result ≡ memory_body self low }
-        ensures kind { memory_kind (result / 0x100) ≡ Some self }
-        ensures low { result % 0x100 ≡ low }
-    {
-        body_of(self as u32, low)
+    fn number(self) -> u8 {
+        self as u8
     }
 }

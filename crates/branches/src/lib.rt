@@ -2,8 +2,7 @@
 #![tactic(auto)]
 
 mod draft;
-mod drafts;
 mod relative;
 
-pub use draft::Draft;
+pub use draft::{Draft, Opcode};
 pub use relative::branch;

@@ -1,8 +1,6 @@
 -- Displacements, and the fields that hold them.
-use Rattle.std.specs.Prelude.{ℕ, ◌+◌, ◌^◌, Bool, true, ℤ, pos, ◌-ℤ◌, nat_lt}
-use Rattle.std.specs.Int.Signed.{mag}
-use mir.Val.{hbits}
-use Rattle.std.specs.Int.{int_wrap, Width as Span, w8, w16, w32}
+use Rattle.std.specs.Prelude.{ℕ, ◌+◌, ◌-◌, ◌^◌, Bool, true, ◌&&◌, ℤ, pos, ◌-ℤ◌, neg_ℤ, int_lt, int_le}
+use Rattle.std.specs.Int.{int_wrap}
 use Rattle.x86.specs.declared.instruction.Family.{Family}
 use Rattle.x86.specs.declared.instruction.Family.TheVariants.{Jcc, Jmp, Call, Memory, Plain, Other}
 use Rattle.x86.specs.declared.instruction.Form.{Form}
@@ -43,15 +41,15 @@ field_size Double = 4
 abbrev pub displacement : Width → ℕ → ℕ → ℤ
 displacement w target next = int_wrap (span w) (pos target -ℤ pos next)
 
--- is z a signed number of that many bits: at least - 2 ^ hbits s, and below 2 ^ hbits s?
-abbrev pub signed : Span → ℤ → Bool
-signed s z = nat_lt (mag z) (2 ^ hbits s)
+-- is z a signed number of k bits: at least - 2 ^ (k - 1), and below 2 ^ (k - 1)?
+abbrev pub signed : ℕ → ℤ → Bool
+signed k z = int_le (neg_ℤ (pos (2 ^ (k - 1)))) z && int_lt z (pos (2 ^ (k - 1)))
 
 abbrev pub fits : Field → ℤ → Bool
 fits Absent z = true
-fits Byte z = signed w8 z
-fits Word z = signed w16 z
-fits Double z = signed w32 z
+fits Byte z = signed 8 z
+fits Word z = signed 16 z
+fits Double z = signed 32 z
 
 -- does the displacement from n bytes at an address to the target fit its field?
 abbrev pub reaches : Instruction → ℕ → ℕ → ℕ → Bool

@@ -1,7 +1,6 @@
 -- An encoding as the bytes before and behind the field of its displacement.
-use Rattle.std.specs.Prelude.{ℕ, ◌+◌, cond, ◌&&◌, List, ◌++◌, length, take, drop, ℤ, Some, None, Option, nat_le}
-use Rattle.std.specs.Int.{w64}
-use Rattle.std.proofs.Common.{of_z}
+use Rattle.std.specs.Prelude.{ℕ, ◌+◌, cond, ◌&&◌, List, ◌++◌, length, ℤ, Some, None, Option, nat_le}
+use Rattle.std.specs.Int.{w64, cast_unsigned}
 use Rattle.x86.specs.declared.constant_offsets.ConstantOffsets.{ConstantOffsets}
 use Rattle.x86.specs.declared.instruction.Instruction.{Instruction}
 use Rattle.x86.specs.Widths.{bytes_of}
@@ -16,7 +15,7 @@ pub record Shape : Type 0 where
 
 -- a displacement as its field holds it: two's complement, little-endian
 abbrev pub field_bytes : Field → ℤ → List ℕ
-field_bytes f d = bytes_of (field_size f) (of_z w64 d)
+field_bytes f d = bytes_of (field_size f) (cast_unsigned w64 d)
 
 abbrev pub total : Instruction → Shape → ℕ
 total i s = length s.head + field_size (field_of i) + length s.tail
@@ -37,7 +36,3 @@ written i s target address n = cond (reaches i n target address) (Some (filled i
 abbrev pub code_of : Instruction → Option Shape → ℕ → ℕ → Option Encoding
 code_of i None target address = None
 code_of i (Some s) target address = cond (nat_le 1 (total i s) && nat_le (total i s) 15) (written i s target address (total i s)) None
-
--- bytes put into a row from a place on
-abbrev pub put : List ℕ → ℕ → List ℕ → List ℕ
-put row at bs = take at row ++ (bs ++ drop (at + length bs) row)

@@ -1,6 +1,6 @@
 // The displacement that reaches a target.
 ghost use Rattle.std.specs.Prelude.{◌≡◌, ◌+◌};
-ghost use Rattle.std.proofs.Common.{to_z};
+ghost use Rattle.std.specs.Int.{cast_signed};
 ghost use Rattle.x86.specs.Widths.{span, low};
 ghost use Rattle.encoder.specs.Fields.{displacement};
 
@@ -8,11 +8,11 @@ use x86::Width;
 
 // A number's low bits, signed.
 fn signed_low(width: Width, x: u64) -> i64
-    ensures { result ≡ to_z (span width) (low width x) }
+    ensures { result ≡ cast_signed (span width) (low width x) }
 {
     match width {
-        Width::Bits16 => ((x % 0x1_0000) as u16).cast_signed() as i64,
-        Width::Bits32 => ((x % 0x1_0000_0000) as u32).cast_signed() as i64,
+        Width::Bits16 => ((x & 0xFFFF) as u16).cast_signed().into(),
+        Width::Bits32 => ((x & 0xFFFF_FFFF) as u32).cast_signed().into(),
         Width::Bits64 => x.cast_signed(),
     }
 }

@@ -52,9 +52,9 @@ impl Field {
     {
         match self {
             Field::Absent => true,
-            Field::Byte => -0x80 <= displacement && displacement < 0x80,
-            Field::Word => -0x8000 <= displacement && displacement < 0x8000,
-            Field::Double => -0x8000_0000 <= displacement && displacement < 0x8000_0000,
+            Field::Byte => i8::try_from(displacement).is_ok(),
+            Field::Word => i16::try_from(displacement).is_ok(),
+            Field::Double => i32::try_from(displacement).is_ok(),
         }
     }
 }

@@ -1,12 +1,11 @@
 // An encoding with its displacement left out, and how it is written.
-ghost use Rattle.std.specs.Prelude.{◌≡◌, ◌+◌, ◌≤◌, length, Some};
+ghost use Rattle.std.specs.Prelude.{◌≡◌, Some};
 ghost use Rattle.encoder.specs.Encodings.{answered, stored};
-ghost use Rattle.encoder.specs.Fields.{field_of, field_size};
-ghost use Rattle.encoder.specs.Layouts.{put, size_of, code_of, field_bytes};
+ghost use Rattle.encoder.specs.Layouts.{size_of, code_of};
 ghost use Rattle.encoder.specs.Laid.{laid};
 
 use crate::displacement::displacement_to;
-use crate::{Field, Refusal};
+use crate::{Field, LONGEST, Refusal, Row};
 use x86::{ConstantOffsets, Instruction};
 
 // The bytes before the field, in two parts, the bytes behind it, and what the encoding's constants are.
@@ -16,27 +15,6 @@ pub struct Layout<'a> {
     pub opcode: &'a [u8],
     pub tail: &'a [u8],
     pub constants: ConstantOffsets,
-}
-
-// Puts bytes into the row at a place, and answers the place behind them.
-fn append(row: &mut [u8; 15], at: usize, bytes: &[u8]) -> usize
-    requires { at + length bytes.now ≤ 15 }
-    ensures value { result ≡ at + length bytes.now }
-    ensures after { row.new ≡ put row.old at bytes.now }
-{
-    let end = at + bytes.len();
-    row[at..end].copy_from_slice(bytes);
-    end
-}
-
-fn append_field(row: &mut [u8; 15], at: usize, field: Field, displacement: i64) -> usize
-    requires { at + field_size «field» ≤ 15 }
-    ensures value { result ≡ at + field_size «field» }
-    ensures after { row.new ≡ put row.old at (field_bytes «field» displacement) }
-{
-    let bytes = displacement.to_le_bytes();
-    let size = field.size();
-    append(row, at, &bytes[0..size])
 }
 
 impl Layout<'_> {
@@ -50,10 +28,9 @@ impl Layout<'_> {
             .saturating_add(self.opcode.len())
             .saturating_add(self.tail.len());
         let size = around.saturating_add(Field::of(ins).size());
-        if 1 <= size && size <= 15 {
-            Some(size)
-        } else {
-            None
+        match size {
+            1..=LONGEST => Some(size),
+            _ => None,
         }
     }
 
@@ -63,7 +40,7 @@ impl Layout<'_> {
         ins: &Instruction,
         target: u64,
         address: u64,
-        row: &mut [u8; 15],
+        row: &mut Row,
     ) -> Result<(ConstantOffsets, usize), Refusal>
         ensures answer { result ≡ answered (size_of ins.now (Some (laid self.now))) (code_of ins.now (Some (laid self.now)) target address) }
         ensures after { row.new ≡ stored (code_of ins.now (Some (laid self.now)) target address) row.old }
@@ -76,10 +53,17 @@ impl Layout<'_> {
         if !field.holds(displacement) {
             return Err(Refusal::OutOfReach);
         }
-        let at = append(row, 0, self.prefixes);
-        let at = append(row, at, self.opcode);
-        let at = append_field(row, at, field, displacement);
-        append(row, at, self.tail);
+        let bytes = displacement.to_le_bytes();
+        let held = &bytes[..field.size()];
+        // each part goes to the front of what is left of the row
+        let (part, rest) = row.split_at_mut(self.prefixes.len());
+        part.copy_from_slice(self.prefixes);
+        let (part, rest) = rest.split_at_mut(self.opcode.len());
+        part.copy_from_slice(self.opcode);
+        let (part, rest) = rest.split_at_mut(held.len());
+        part.copy_from_slice(held);
+        let (part, _) = rest.split_at_mut(self.tail.len());
+        part.copy_from_slice(self.tail);
         Ok((self.constants, size))
     }
 }

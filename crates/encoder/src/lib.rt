@@ -13,14 +13,23 @@ pub mod layout;
 
 pub use field::Field;
 pub use layout::Layout;
+use thiserror::Error;
 use x86::{ConstantOffsets, Instruction, Width};
 
+// No instruction has more bytes.
+pub const LONGEST: usize = 15;
+
+// Room for any encoding.
+pub type Row = [u8; LONGEST];
+
 // Why an encoder writes nothing.
-#[derive(Clone, Copy, PartialEq, Eq, Debug)]
+#[derive(Clone, Copy, PartialEq, Eq, Debug, Error)]
 pub enum Refusal {
     // it knows no encoding of the instruction in the form stated
+    #[error("no size")]
     NoSize,
     // the displacement does not fit its field
+    #[error("out of reach")]
     OutOfReach,
 }
 
@@ -52,7 +61,7 @@ pub trait Encoder: Measure {
         ins: &Instruction,
         target: u64,
         address: u64,
-        row: &mut [u8; 15],
+        row: &mut Row,
     ) -> Result<(ConstantOffsets, usize), Refusal>
         ensures answer { result ≡ answered (Self.Measure.sized self.now ins.now) (code self.now ins.now target address) }
         ensures after { row.new ≡ stored (code self.now ins.now target address) row.old };

@@ -14,9 +14,9 @@ pub mod kinds;
 mod memory;
 mod plain;
 
-use bodies::{MemoryKind, PlainKind};
+use bodies::{Kind, MemoryKind, PlainKind};
 use branches::{Draft, branch};
-use encoder::{Encoder, Measure, Refusal};
+use encoder::{Encoder, Measure, Refusal, Row};
 use memory::memory_operand;
 use plain::plain_bytes;
 use x86::{ConstantOffsets, Family, Instruction, Width};
@@ -36,18 +36,9 @@ impl FieldEncoder {
     pub fn new(bitness: u32) -> Result<FieldEncoder, UnknownBitness>
         ensures { result ≡ made_by bitness }
     {
-        match bitness {
-            16 => Ok(FieldEncoder {
-                bits: Width::Bits16,
-            }),
-            32 => Ok(FieldEncoder {
-                bits: Width::Bits32,
-            }),
-            64 => Ok(FieldEncoder {
-                bits: Width::Bits64,
-            }),
-            _ => Err(UnknownBitness { bitness }),
-        }
+        Width::try_from(u64::from(bitness))
+            .map(|bits| FieldEncoder { bits })
+            .map_err(|_| UnknownBitness { bitness })
     }
 }
 
@@ -77,10 +68,8 @@ impl Measure for FieldEncoder {
     }
 
     fn size(&self, ins: &Instruction) -> Option<usize> {
-        match lay_out(self.bits, ins) {
-            Some(d) => d.layout().size(ins),
-            None => None,
-        }
+        let draft = lay_out(self.bits, ins)?;
+        draft.layout().size(ins)
     }
 }
 
@@ -94,11 +83,9 @@ impl Encoder for FieldEncoder {
         ins: &Instruction,
         target: u64,
         address: u64,
-        row: &mut [u8; 15],
+        row: &mut Row,
     ) -> Result<(ConstantOffsets, usize), Refusal> {
-        match lay_out(self.bits, ins) {
-            Some(d) => d.layout().write(ins, target, address, row),
-            None => Err(Refusal::NoSize),
-        }
+        let draft = lay_out(self.bits, ins).ok_or(Refusal::NoSize)?;
+        draft.layout().write(ins, target, address, row)
     }
 }

@@ -1,12 +1,11 @@
 // Instructions with a memory operand relative to RIP or EIP.
 ghost use Rattle.std.specs.Prelude.{◌≡◌, ◌+◌, length};
 ghost use Rattle.std.specs.Option.{option_map, option_to_list};
-ghost use Rattle.encoder.specs.Laws.{memory_width};
 ghost use Rattle.branches.specs.Drafted.{drafted};
 ghost use Rattle.field_encoder.specs.Shapes.{base_prefix, moved, compared, memory_shape};
 
 use bodies::MemoryKind;
-use branches::Draft;
+use branches::{Draft, Opcode};
 use x86::{ConstantOffsets, Width};
 
 // 67 where the base is EIP, and where the displacement begins behind it and three bytes.
@@ -31,10 +30,8 @@ fn moved_register(width: Width, op: u8, r: u8) -> Option<Draft>
     let (prefix, offset) = base(width);
     Some(Draft {
         prefix,
-        opcode: [rex, op, 0x05 + 8 * (r % 8), 0],
-        len: 3,
-        last: None,
         constants: ConstantOffsets::none().with_displacement(offset, 4),
+        ..Opcode::Three([rex, op, 0x05 + 8 * (r % 8)]).into()
     })
 }
 
@@ -45,8 +42,7 @@ fn compared_byte(width: Width, immediate: u8) -> Draft
     let (prefix, offset) = base(width);
     Draft {
         prefix,
-        opcode: [0x48, 0x83, 0x3D, 0],
-        len: 3,
+        opcode: Opcode::Three([0x48, 0x83, 0x3D]),
         last: Some(immediate),
         constants: ConstantOffsets::none()
             .with_displacement(offset, 4)
@@ -54,20 +50,11 @@ fn compared_byte(width: Width, immediate: u8) -> Draft
     }
 }
 
-// Is there such an operand?
-fn has_operand(bits: Width, width: Width) -> bool
-    ensures { result ≡ memory_width bits width }
-{
-    match (bits, width) {
-        (Width::Bits64, Width::Bits32 | Width::Bits64) => true,
-        _ => false,
-    }
-}
-
 pub(crate) fn memory_operand(bits: Width, width: Width, kind: MemoryKind, low: u8) -> Option<Draft>
     ensures { option_map drafted result ≡ memory_shape bits width kind low }
 {
-    if !has_operand(bits, width) {
+    // 64-bit code alone has such operands
+    if bits != Width::Bits64 || width == Width::Bits16 {
         return None;
     }
     match kind {

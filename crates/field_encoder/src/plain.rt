@@ -5,7 +5,7 @@ ghost use Rattle.branches.specs.Drafted.{drafted};
 ghost use Rattle.field_encoder.specs.Shapes.{sole, stack, step, plain_shape};
 
 use bodies::PlainKind;
-use branches::Draft;
+use branches::{Draft, Opcode};
 use x86::{ConstantOffsets, Width};
 
 // One byte; the body's low byte is 0.
@@ -15,13 +15,7 @@ fn sole_byte(op: u8, low: u8) -> Option<Draft>
     if low != 0 {
         return None;
     }
-    Some(Draft {
-        prefix: None,
-        opcode: [op, 0, 0, 0],
-        len: 1,
-        last: None,
-        constants: ConstantOffsets::none(),
-    })
+    Some(Opcode::One([op]).into())
 }
 
 // push or pop of a register; 8 to 15 stand behind 41, in 64-bit code alone.
@@ -29,37 +23,25 @@ fn stack_byte(bits: Width, op: u8, r: u8) -> Option<Draft>
     requires { op ≤ 0x58 }
     ensures { option_map drafted result ≡ stack bits op r }
 {
-    let (prefix, low) = match (bits, r) {
-        (_, 0..=7) => (None, r),
-        (Width::Bits64, 8..=15) => (Some(0x41), r - 8),
-        _ => return None,
-    };
-    Some(Draft {
-        prefix,
-        opcode: [op + low, 0, 0, 0],
-        len: 1,
-        last: None,
-        constants: ConstantOffsets::none(),
-    })
+    match (bits, r) {
+        (_, 0..=7) => Some(Opcode::One([op + r]).into()),
+        (Width::Bits64, 8..=15) => Some(Opcode::Two([0x41, op + (r - 8)]).into()),
+        _ => None,
+    }
 }
 
 // lea r, [r + 1]; rsp and r12 as a base would need a SIB byte.
 fn step_bytes(bits: Width, r: u8) -> Option<Draft>
     ensures { option_map drafted result ≡ step bits r }
 {
-    match bits {
-        Width::Bits64 if r < 16 && r % 8 != 4 => {
-            let rex = if r < 8 { 0x48 } else { 0x4D };
-            Some(Draft {
-                prefix: None,
-                opcode: [rex, 0x8D, 0x40 + 9 * (r % 8), 0x01],
-                len: 4,
-                last: None,
-                constants: ConstantOffsets::none().with_displacement(3, 1),
-            })
-        }
-        _ => None,
+    if bits != Width::Bits64 || r >= 16 || r % 8 == 4 {
+        return None;
     }
+    let rex = if r < 8 { 0x48 } else { 0x4D };
+    Some(Draft {
+        constants: ConstantOffsets::none().with_displacement(3, 1),
+        ..Opcode::Four([rex, 0x8D, 0x40 + 9 * (r % 8), 0x01]).into()
+    })
 }
 
 pub(crate) fn plain_bytes(bits: Width, kind: PlainKind, low: u8) -> Option<Draft>

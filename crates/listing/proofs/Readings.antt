@@ -1,6 +1,5 @@
 -- What a listing answers reads back.
-use Rattle.std.proofs.Common.{◌≡◌, ℕ, length, drop, replicate, Some, None, Option, sym, refl, subst}
-use Rattle.std.proofs.lemmas.List.{take_at}
+use Rattle.std.proofs.Common.{◌≡◌, ℕ, Some, None, Option, refl, subst}
 use Rattle.x86.specs.declared.instruction.Instruction.{Instruction as Ins}
 use Rattle.x86.specs.declared.instruction.Width.{Width}
 use Rattle.encoder.specs.Encodings.{Encoding, Reads}
@@ -16,9 +15,7 @@ use Rattle.listing.specs.Steps.{answer_to, Stepped, Understood}
 
 answer_reads : (mode : Width) (i : Ins) (a : ℕ) (size : Option ℕ) (code : Option Encoding)
     → ((x : Encoding) → code ≡ Some x → Reads mode i i.target a x) → ReadsAs mode i (answer_at a size code)
-answer_reads mode i a size (Some x) h =
-    subst (λ bs. Reads mode i i.target a (record { bytes = bs; constants = x.constants }))
-    (sym (take_at x.bytes (drop (length x.bytes) (replicate 15 0)) (length x.bytes) refl)) (h x refl)
+answer_reads mode i a size (Some x) h = h x refl
 answer_reads mode i a (Some n) None h = tt
 answer_reads mode i a None None h = tt
 

@@ -2,9 +2,11 @@
 #![tactic(auto)]
 
 pub mod answer;
+pub mod code;
 pub mod listing;
 pub mod progress;
 
-pub use answer::Answer;
+pub use answer::{Answer, Encoded};
+pub use code::Code;
 pub use listing::Listing;
 pub use progress::Progress;

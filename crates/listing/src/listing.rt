@@ -46,10 +46,9 @@ impl Listing {
         };
         match line {
             Line::Bits(bitness) => {
-                let Ok(encoder) = FieldEncoder::new(bitness) else {
-                    return Err(Problem::UnknownBitness(bitness));
-                };
-                self.encoder = encoder;
+                self.encoder = FieldEncoder::new(bitness).map_err(|_| Problem::UnknownBitness(
+                    bitness,
+                ))?;
                 Ok(None)
             }
             Line::At(address) => {

@@ -8,7 +8,7 @@ use encoder::Encoder;
 use std::fmt;
 use x86::Instruction;
 
-#[derive(Clone, Copy)]
+#[derive(Clone, Copy, Default)]
 pub struct Progress {
     // of the next instruction
     pub address: u64,
@@ -20,11 +20,7 @@ impl Progress {
     pub fn new() -> Progress
         ensures value { result ≡ start }
     {
-        Progress {
-            address: 0,
-            encoded: 0,
-            refused: 0,
-        }
+        Progress::default()
     }
 
     // Encodes an instruction where the listing stands, and moves on.
@@ -41,20 +37,18 @@ impl Progress {
     fn pass(&mut self, answer: &Answer)
         ensures after { self.new ≡ moved self.old answer.now }
     {
-        match answer {
-            Answer::Encoded { size, .. } => {
-                self.address = self.address.wrapping_add(*size as u64);
+        match &answer.outcome {
+            Ok(encoded) => {
+                self.address = self.address.wrapping_add(encoded.code.size() as u64);
                 self.encoded = self.encoded.wrapping_add(1);
             }
-            Answer::Refused { .. } => self.refused = self.refused.wrapping_add(1),
+            Err(_) => self.refused = self.refused.wrapping_add(1),
         }
     }
 }
 
 impl fmt::Display for Progress {
     fn fmt<W: fmt::Write>(&self, f: &mut fmt::Formatter<W>) -> fmt::Result {
-        let encoded = self.encoded;
-        let refused = self.refused;
-        write!(f, "{encoded} encoded, {refused} refused")
+        write!(f, "{} encoded, {} refused", self.encoded, self.refused)
     }
 }

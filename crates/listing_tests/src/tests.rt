@@ -1,95 +1,78 @@
-// Listings, line by line, held to tables of answers.
+// The field encoder and the reading of lines, held to tables of answers.
+use crate::follow::{Follow, holds};
 use crate::tables;
-use encoder::{Encoder, Measure, Refusal};
+use encoder::{Encoder, LONGEST, Measure, Refusal};
 use field_encoder::FieldEncoder;
 use script::{Line, read_line};
-use std::alloc::Global;
 use std::process::Abort;
 use std::test::Fail;
-use text::show::{Bytes, Constants};
+use text::show::Bytes;
 use x86::Instruction;
 
 // What a row holds before it is written to.
 const MARK: u8 = 0xA5;
 
-// What the encoder answers, as a table has it. The rest of the row stays, all of it where it refuses, and the size is
-// as told before.
-fn answer(
-    rt: &impl Abort,
-    heap: Global,
-    encoder: &FieldEncoder,
-    ins: &Instruction,
+// An encoder, and the address of what it is to encode.
+#[derive(Clone, Copy)]
+struct Place {
+    encoder: FieldEncoder,
     address: u64,
-) -> Result<String, Fail> {
-    let mut row = [MARK; 15];
-    let size = encoder.size(ins);
-    match encoder.encode(ins, ins.target, address, &mut row) {
-        Ok((constants, written)) => {
-            assert_eq!(rt; size, Some(written));
-            assert!(rt; written <= 15);
-            assert_eq!(rt; &row[written..], &[MARK; 15][written..]);
-            let bytes = Bytes(&row[0..written]);
-            let constants = Constants(constants);
-            Ok(format!(in heap; "{bytes} constants {constants}")?)
-        }
-        Err(why) => {
-            assert_eq!(rt; row, [MARK; 15]);
-            assert_eq!(rt; size.is_none(), why == Refusal::NoSize);
-            Ok(String::from_str(heap, shown(why))?)
+}
+
+impl Place {
+    fn start() -> Result<Place, Fail> {
+        Ok(Place {
+            encoder: FieldEncoder::new(64)?,
+            address: 0,
+        })
+    }
+
+    // What the encoder answers, as a table has it. The rest of the row stays, all of it where it refuses, and the size
+    // is as told before.
+    fn answer(&self, rt: &(impl Abort + AllocGlobal), ins: &Instruction) -> Result<String, Fail> {
+        let mut row = [MARK; LONGEST];
+        let size = self.encoder.size(ins);
+        match self.encoder.encode(ins, ins.target, self.address, &mut row) {
+            Ok((constants, written)) => {
+                assert_eq!(rt; size, Some(written));
+                assert!(rt; written <= LONGEST);
+                assert_eq!(rt; &row[written..], &[MARK; LONGEST][written..]);
+                let bytes = Bytes(&row[0..written]);
+                Ok(format!(in rt.alloc(); "{bytes} constants {constants}")?)
+            }
+            Err(why) => {
+                assert_eq!(rt; row, [MARK; LONGEST]);
+                assert_eq!(rt; size.is_none(), why == Refusal::NoSize);
+                Ok(format!(in rt.alloc(); " {why}")?)
+            }
         }
     }
 }
 
-fn shown(why: Refusal) -> &'static str {
-    match why {
-        Refusal::NoSize => " no size",
-        Refusal::OutOfReach => " out of reach",
+impl Follow for Place {
+    fn follow(
+        &mut self,
+        rt: &(impl Abort + AllocGlobal),
+        line: &str,
+    ) -> Result<Result<String, String>, Fail> {
+        let told = match read_line(line) {
+            Ok(None) => String::from_str(rt.alloc(), " nothing")?,
+            Ok(Some(Line::Bits(bits))) => match FieldEncoder::new(bits) {
+                Ok(encoder) => {
+                    self.encoder = encoder;
+                    format!(in rt.alloc(); " bits {bits}")?
+                }
+                Err(_) => return Ok(Err(String::from_str(rt.alloc(), " no such bitness")?)),
+            },
+            Ok(Some(Line::At(address))) => {
+                self.address = address;
+                format!(in rt.alloc(); " at {address}")?
+            }
+            Ok(Some(Line::Instruction(ins))) => self.answer(rt, &ins)?,
+            Err(problem) => return Ok(Err(format!(in rt.alloc(); " {problem}")?)),
+        };
+        Ok(Ok(told))
     }
-}
-
-// What a line answers where the encoder stands at the address.
-fn told(
-    rt: &impl Abort,
-    heap: Global,
-    encoder: &mut FieldEncoder,
-    address: &mut u64,
-    line: &str,
-) -> Result<String, Fail> {
-    match read_line(line) {
-        Ok(None) => Ok(String::from_str(heap, " nothing")?),
-        Ok(Some(Line::Bits(bits))) => {
-            let Ok(other) = FieldEncoder::new(bits) else {
-                return Ok(String::from_str(heap, " no such bitness")?);
-            };
-            *encoder = other;
-            Ok(format!(in heap; " bits {bits}")?)
-        }
-        Ok(Some(Line::At(place))) => {
-            *address = place;
-            Ok(format!(in heap; " at {place}")?)
-        }
-        Ok(Some(Line::Instruction(ins))) => answer(rt, heap, encoder, &ins, *address),
-        Err(problem) => Ok(format!(in heap; " {problem}")?),
-    }
-}
-
-// Each line has the answer behind its arrow; a line without one only moves on.
-fn holds(rt: &impl Abort, heap: Global, table: &str) -> Result<(), Fail> {
-    let mut encoder = FieldEncoder::new(64)?;
-    let mut address = 0;
-    for row in table.lines() {
-        if let Some((line, expected)) = row.split_once(" =>") {
-            assert_eq!(rt;
-                told(rt, heap, &mut encoder, &mut address, line)?.as_str(),
-                expected,
-                "{}",
-                row
-            );
-        } else {
-            let _ = told(rt, heap, &mut encoder, &mut address, row)?;
-        }
-    }
-    Ok(())
 }
 
 #[test]
@@ -105,7 +88,7 @@ fn tables_hold(rt: HostRuntime) -> Result<(), Fail> {
         tables::UNLISTED,
         tables::LINES,
     ] {
-        holds(&rt, rt.alloc(), table)?;
+        holds(&rt, Place::start()?, table)?;
     }
     Ok(())
 }
@@ -113,19 +96,16 @@ fn tables_hold(rt: HostRuntime) -> Result<(), Fail> {
 // A listing cannot state these conditions.
 #[test]
 fn conditions_past_15(rt: HostRuntime) -> Result<(), Fail> {
-    let encoder = FieldEncoder::new(64)?;
     let Ok(Some(Line::Instruction(jump))) = read_line("1 jg near 64 0x2000") else {
         return Err(Fail::new("a line"));
     };
+    let place = Place {
+        address: 0x1000,
+        ..Place::start()?
+    };
     // 0x80 and 0x90 add up to 256 with the first opcodes
     for condition in [16, 0x80, 0x90, 0xFF] {
-        let answer = answer(
-            &rt,
-            rt.alloc(),
-            &encoder,
-            &Instruction { condition, ..jump },
-            0x1000,
-        )?;
+        let answer = place.answer(&rt, &Instruction { condition, ..jump })?;
         assert_eq!(rt; answer.as_str(), " no size");
     }
     Ok(())

@@ -1,6 +1,6 @@
 // A listing, followed line by line, held to a table of answers.
+use crate::follow::{Follow, holds};
 use listing::Listing;
-use std::alloc::Global;
 use std::process::Abort;
 use std::test::Fail;
 use text::show::Address;
@@ -42,33 +42,21 @@ at 0xFFFFFFFFFFFFFFFE
 1 nop => 0x1 90 constants 0,0,0,0,0,0
 ";
 
-// What the listing answers to a line, or where it then stands.
-fn told(heap: Global, listing: &mut Listing, line: &str) -> Result<String, Fail> {
-    match listing.follow(line) {
-        Ok(Some(answer)) => Ok(format!(in heap; " {answer}")?),
-        Ok(None) => {
-            let address = Address(listing.progress.address);
-            Ok(format!(in heap; " at {address}")?)
-        }
-        Err(problem) => Ok(format!(in heap; " {problem}")?),
+impl Follow for Listing {
+    fn follow(
+        &mut self,
+        rt: &(impl Abort + AllocGlobal),
+        line: &str,
+    ) -> Result<Result<String, String>, Fail> {
+        Ok(match self.follow(line) {
+            Ok(Some(answer)) => Ok(format!(in rt.alloc(); " {answer}")?),
+            Ok(None) => Ok(format!(in rt.alloc(); " at {}", Address(self.progress.address))?),
+            Err(problem) => Err(format!(in rt.alloc(); " {problem}")?),
+        })
     }
-}
-
-// Each line has the answer behind its arrow, and leaves the listing where it was; a line without one moves it on.
-fn holds(rt: &impl Abort, heap: Global, table: &str) -> Result<(), Fail> {
-    let mut listing = Listing::new();
-    for row in table.lines() {
-        if let Some((line, expected)) = row.split_once(" =>") {
-            let mut copy = listing;
-            assert_eq!(rt; told(heap, &mut copy, line)?.as_str(), expected, "{}", row);
-        } else if listing.follow(row).is_err() {
-            return Err(Fail::new(row));
-        }
-    }
-    Ok(())
 }
 
 #[test]
 fn walk_holds(rt: HostRuntime) -> Result<(), Fail> {
-    holds(&rt, rt.alloc(), WALK)
+    holds(&rt, Listing::new(), WALK)
 }

@@ -1,15 +1,14 @@
 // A line of a listing.
 ghost use Rattle.std.specs.Prelude.{◌≡◌};
 ghost use Rattle.std.specs.Result.{result_ok};
-ghost use Rattle.script.specs.Lines.{body_in, branch_in, operand_in, branch_line, plain_line, memory_line, raw_memory_line, stated_in, instruction_of, line_of};
+ghost use Rattle.script.specs.Lines.{body_in, branch_line, plain_line, operand_line, stated_in, instruction_of, line_of};
 ghost use Rattle.text.specs.Phrases.{told};
 ghost use Rattle.text.specs.Words.{words_of, left};
 
 use crate::build;
-use crate::build::{Branch, Operand};
 use crate::mnemonic::{Mnemonic, has_register};
-use bodies::{MemoryKind, PlainKind};
-use text::{Problem, Wanted, Words};
+use bodies::{Kind, PlainKind};
+use text::{Problem, Words};
 use x86::{Family, Instruction};
 
 #[derive(Clone, Copy)]
@@ -33,8 +32,8 @@ pub fn read_line(text: &str) -> Result<Option<Line>, Problem<'_>>
         return Ok(None);
     }
     let line = match first {
-        "bits" => Line::Bits(words.number32()?),
-        "at" => Line::At(words.number()?),
+        "bits" => Line::Bits(words.read()?),
+        "at" => Line::At(words.read()?),
         _ => return Ok(Some(Line::Instruction(read_instruction(text)?))),
     };
     words.end()?;
@@ -46,92 +45,53 @@ fn read_instruction(text: &str) -> Result<Instruction, Problem<'_>>
     ensures value { result_ok result ≡ instruction_of (words_of text.now) }
 {
     let mut words = Words::new(text);
-    let old_address = words.number()?;
-    let name = words.word(Wanted::Mnemonic)?;
-    let mnemonic = Mnemonic::named(name).ok_or(Problem::UnknownMnemonic(name))?;
-    let instruction = stated(&mut words, old_address, mnemonic)?;
+    let old_address = words.read()?;
+    let mnemonic = words.read()?;
+    let instruction = stated(&mut words, mnemonic)?;
     words.end()?;
-    Ok(instruction)
+    Ok(Instruction {
+        old_address,
+        ..instruction
+    })
 }
 
-// What the mnemonic wants behind it.
-fn stated<'a>(
-    words: &mut Words<'a>,
-    old_address: u64,
-    mnemonic: Mnemonic,
-) -> Result<Instruction, Problem<'a>>
-    ensures value { told result (left words.new) ≡ stated_in old_address mnemonic (left words.old) }
+// What the mnemonic and the words behind it state.
+fn stated<'a>(words: &mut Words<'a>, mnemonic: Mnemonic) -> Result<Instruction, Problem<'a>>
+    ensures value { told result (left words.new) ≡ stated_in mnemonic (left words.old) }
 {
     match mnemonic {
-        Mnemonic::Jcc(condition) => stated_branch(words, Family::Jcc, condition, old_address),
-        Mnemonic::Jmp => stated_branch(words, Family::Jmp, 0, old_address),
-        Mnemonic::Call => stated_branch(words, Family::Call, 0, old_address),
-        Mnemonic::Plain(kind) => stated_plain(words, kind, old_address),
-        Mnemonic::Memory(kind) => stated_memory(words, kind, old_address),
-        Mnemonic::RawPlain => Ok(build::plain(old_address, words.number32()?)),
-        Mnemonic::RawMemory => raw_memory(words, old_address),
-        Mnemonic::Other => Ok(build::other(old_address)),
+        Mnemonic::Jcc(condition) => branch(words, Family::Jcc, condition),
+        Mnemonic::Jmp => branch(words, Family::Jmp, 0),
+        Mnemonic::Call => branch(words, Family::Call, 0),
+        Mnemonic::Plain(kind) => plain(words, kind),
+        Mnemonic::Memory(kind) => {
+            let low = words.read()?;
+            operand(words, kind.body(low))
+        }
+        Mnemonic::RawPlain => Ok(build::plain(words.read()?)),
+        Mnemonic::RawMemory => {
+            let body = words.read()?;
+            operand(words, body)
+        }
+        Mnemonic::Other => Ok(build::other()),
     }
 }
 
-fn stated_branch<'a>(
+fn branch<'a>(
     words: &mut Words<'a>,
     family: Family,
     condition: u8,
-    old_address: u64,
 ) -> Result<Instruction, Problem<'a>>
-    ensures value { told result (left words.new) ≡ branch_line family condition old_address (left words.old) }
+    ensures value { told result (left words.new) ≡ branch_line family condition (left words.old) }
 {
-    let stated = branch(words)?;
-    Ok(build::any_branch(family, condition, old_address, stated))
-}
-
-fn stated_plain<'a>(
-    words: &mut Words<'a>,
-    kind: PlainKind,
-    old_address: u64,
-) -> Result<Instruction, Problem<'a>>
-    ensures value { told result (left words.new) ≡ plain_line kind old_address (left words.old) }
-{
-    if !has_register(kind) {
-        return Ok(build::plain(old_address, kind.body(0)));
-    }
-    let register = words.byte()?;
-    Ok(build::plain(old_address, kind.body(register)))
-}
-
-fn stated_memory<'a>(
-    words: &mut Words<'a>,
-    kind: MemoryKind,
-    old_address: u64,
-) -> Result<Instruction, Problem<'a>>
-    ensures value { told result (left words.new) ≡ memory_line kind old_address (left words.old) }
-{
-    let low = words.byte()?;
-    let operand = operand(words)?;
-    Ok(build::memory(old_address, kind.body(low), operand))
-}
-
-fn raw_memory<'a>(words: &mut Words<'a>, old_address: u64) -> Result<Instruction, Problem<'a>>
-    ensures value { told result (left words.new) ≡ raw_memory_line old_address (left words.old) }
-{
-    let body = words.number32()?;
-    let operand = operand(words)?;
-    Ok(build::memory(old_address, body, operand))
-}
-
-fn branch<'a>(words: &mut Words<'a>) -> Result<Branch, Problem<'a>>
-    ensures value { told result (left words.new) ≡ branch_in (left words.old) }
-{
-    let form = words.form()?;
-    let width = words.width()?;
-    let target = words.number()?;
-    let body = body(words)?;
-    Ok(Branch {
-        form,
-        width,
-        target,
-        body,
+    Ok(Instruction {
+        family,
+        condition,
+        form: words.read()?,
+        width: words.read()?,
+        target: words.read()?,
+        body: body(words)?,
+        old_address: 0,
     })
 }
 
@@ -142,15 +102,28 @@ fn body<'a>(words: &mut Words<'a>) -> Result<u32, Problem<'a>>
         return Ok(0);
     };
     match word {
-        "body" => words.number32(),
+        "body" => words.read(),
         _ => Err(Problem::Unexpected(word)),
     }
 }
 
-fn operand<'a>(words: &mut Words<'a>) -> Result<Operand, Problem<'a>>
-    ensures value { told result (left words.new) ≡ operand_in (left words.old) }
+fn plain<'a>(words: &mut Words<'a>, kind: PlainKind) -> Result<Instruction, Problem<'a>>
+    ensures value { told result (left words.new) ≡ plain_line kind (left words.old) }
 {
-    let width = words.width()?;
-    let target = words.number()?;
-    Ok(Operand { width, target })
+    if !has_register(kind) {
+        return Ok(build::plain(kind.body(0)));
+    }
+    let register = words.read()?;
+    Ok(build::plain(kind.body(register)))
+}
+
+fn operand<'a>(words: &mut Words<'a>, body: u32) -> Result<Instruction, Problem<'a>>
+    ensures value { told result (left words.new) ≡ operand_line body (left words.old) }
+{
+    Ok(Instruction {
+        family: Family::Memory,
+        width: words.read()?,
+        target: words.read()?,
+        ..build::plain(body)
+    })
 }

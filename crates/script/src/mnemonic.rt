@@ -3,6 +3,7 @@ ghost use Rattle.std.specs.Prelude.{◌≡◌};
 ghost use Rattle.script.specs.Names.{condition_of, mnemonic_of, has_register};
 
 use bodies::{MemoryKind, PlainKind};
+use text::{Problem, Wanted, Word};
 
 #[derive(Clone, Copy)]
 pub enum Mnemonic {
@@ -17,30 +18,32 @@ pub enum Mnemonic {
     Other,
 }
 
-impl Mnemonic {
-    pub fn named(word: &str) -> Option<Mnemonic>
-        ensures value { result ≡ mnemonic_of word.now }
-    {
+impl Word for Mnemonic {
+    ghost meaning = { mnemonic_of };
+
+    const WANTED: Wanted = Wanted::Mnemonic;
+
+    fn read(word: &str) -> Result<Mnemonic, Problem<'_>> {
         if let Some(condition) = condition(word) {
-            return Some(Mnemonic::Jcc(condition));
+            return Ok(Mnemonic::Jcc(condition));
         }
         match word {
-            "jmp" => Some(Mnemonic::Jmp),
-            "call" => Some(Mnemonic::Call),
-            "nop" => Some(Mnemonic::Plain(PlainKind::Nop)),
-            "ret" => Some(Mnemonic::Plain(PlainKind::Ret)),
-            "int3" => Some(Mnemonic::Plain(PlainKind::Int3)),
-            "push" => Some(Mnemonic::Plain(PlainKind::Push)),
-            "pop" => Some(Mnemonic::Plain(PlainKind::Pop)),
-            "step" => Some(Mnemonic::Plain(PlainKind::Step)),
-            "load" => Some(Mnemonic::Memory(MemoryKind::Load)),
-            "store" => Some(Mnemonic::Memory(MemoryKind::Store)),
-            "address" => Some(Mnemonic::Memory(MemoryKind::Address)),
-            "compare" => Some(Mnemonic::Memory(MemoryKind::Compare)),
-            "plain" => Some(Mnemonic::RawPlain),
-            "memory" => Some(Mnemonic::RawMemory),
-            "other" => Some(Mnemonic::Other),
-            _ => None,
+            "jmp" => Ok(Mnemonic::Jmp),
+            "call" => Ok(Mnemonic::Call),
+            "nop" => Ok(Mnemonic::Plain(PlainKind::Nop)),
+            "ret" => Ok(Mnemonic::Plain(PlainKind::Ret)),
+            "int3" => Ok(Mnemonic::Plain(PlainKind::Int3)),
+            "push" => Ok(Mnemonic::Plain(PlainKind::Push)),
+            "pop" => Ok(Mnemonic::Plain(PlainKind::Pop)),
+            "step" => Ok(Mnemonic::Plain(PlainKind::Step)),
+            "load" => Ok(Mnemonic::Memory(MemoryKind::Load)),
+            "store" => Ok(Mnemonic::Memory(MemoryKind::Store)),
+            "address" => Ok(Mnemonic::Memory(MemoryKind::Address)),
+            "compare" => Ok(Mnemonic::Memory(MemoryKind::Compare)),
+            "plain" => Ok(Mnemonic::RawPlain),
+            "memory" => Ok(Mnemonic::RawMemory),
+            "other" => Ok(Mnemonic::Other),
+            _ => Err(Problem::UnknownMnemonic(word)),
         }
     }
 }
@@ -49,33 +52,21 @@ impl Mnemonic {
 pub fn has_register(kind: PlainKind) -> bool
     ensures value { result ≡ has_register kind }
 {
-    match kind {
-        PlainKind::Nop | PlainKind::Ret | PlainKind::Int3 => false,
-        PlainKind::Push | PlainKind::Pop | PlainKind::Step => true,
-    }
+    matches!(kind, PlainKind::Push | PlainKind::Pop | PlainKind::Step)
 }
 
-// A condition is the place of its name in the order of the processor's manual.
+// The names of the conditions, in the order of the processor's manual.
+const CONDITIONS: [&str; 16] = [
+    "jo", "jno", "jb", "jae", "je", "jne", "jbe", "ja", "js", "jns", "jp", "jnp", "jl", "jge",
+    "jle", "jg",
+];
+
+// A condition is the place of its name in that order.
 pub fn condition(word: &str) -> Option<u8>
     ensures value { result ≡ condition_of word.now }
 {
-    match word {
-        "jo" => Some(0),
-        "jno" => Some(1),
-        "jb" => Some(2),
-        "jae" => Some(3),
-        "je" => Some(4),
-        "jne" => Some(5),
-        "jbe" => Some(6),
-        "ja" => Some(7),
-        "js" => Some(8),
-        "jns" => Some(9),
-        "jp" => Some(10),
-        "jnp" => Some(11),
-        "jl" => Some(12),
-        "jge" => Some(13),
-        "jle" => Some(14),
-        "jg" => Some(15),
-        _ => None,
-    }
+    CONDITIONS
+        .iter()
+        .position(|&name| name == word)
+        .map(|place| place as u8)
 }

@@ -1,4 +1,4 @@
-pub mod Unlisted
 mod Numerals
 mod Characters
 mod Splits
+mod Phrases

@@ -1,68 +1,47 @@
 -- What `split_whitespace` gives are the words of the text.
-use Rattle.std.proofs.Common.{◌≡◌, ℕ, ◌<◌, true, List, [], ◌∷◌, ◌++◌, length, Some, None, Option, sym, refl, ap, ◌∙◌, subst, append_assoc, append-nil, arith, Bor, MatchOption}
-use lib.Utf8.{encodes}
-use Rattle.std.proofs.lemmas.Bool.{cond-true, cond-false, not-false}
+use Rattle.std.proofs.Common.{◌≡◌, ℕ, ◌<◌, List, [], ◌∷◌, ◌++◌, length, Some, None, Option, encode_utf8_all, refl, ◌∙◌, append_assoc, append-nil, arith, Bor}
+use Rattle.std.proofs.lemmas.Bool.{not-false}
 use Rattle.std.proofs.lemmas.Str.{chars-nil}
 use Rattle.std.specs.Char.{is_whitespace, is_not_whitespace}
-use Rattle.std.specs.Str.{NonePass, NoCharPasses, EmptyOrStartsWithPassing, chars as decodes}
-use Rattle.std.specs.Str.Iter.{split_whitespace_rest as rest_of}
+use Rattle.std.specs.Str.{NonePass, EmptyOrStartsWithPassing, chars}
+use Rattle.std.specs.Str.Iter.{split_whitespace_rest as rest_of, split_whitespace_steps}
 use Rattle.std.specs.declared.str.SplitWhitespace.{SplitWhitespace}
-use Rattle.text.specs.Words.{words_after, words_of, Taken}
-use Rattle.text.proofs.Characters.{first_char, first_chars}
+use Rattle.std.specs.Iterator.{MakesProgress, at_most}
+use Rattle.text.specs.declared.words.Words.{Words}
+use Rattle.text.specs.Words.{words_after, words_of, left, Taken}
+use Rattle.text.proofs.Characters.{first_char}
 
-skip_white : (gs cs : List ℕ) → NonePass is_not_whitespace gs → words_after [] (gs ++ cs) ≡ words_after [] cs
-skip_white [] cs blank = refl
-skip_white (g ∷ gs) cs blank = cond-true (is_whitespace g) _ _ (not-false (is_whitespace g) blank.0) ∙ skip_white gs cs blank.1
-
-gather : (word xs cs : List ℕ) → NonePass is_whitespace xs → words_after word (xs ++ cs) ≡ words_after (word ++ xs) cs
-gather word [] cs solid = ap (λ w. words_after w cs) (sym (append-nil word))
-gather word (x ∷ xs) cs solid =
-    cond-false (is_whitespace x) _ _ solid.0 ∙ (gather (word ++ (x ∷ [])) xs cs solid.1 ∙ ap (λ w. words_after w cs) (append_assoc word (x ∷ []) xs))
-
-finish : (x : ℕ) (xs cs more : List ℕ) (c : ℕ) → is_whitespace c ≡ true → cs ≡ c ∷ more → words_after (x ∷ xs) cs ≡ encodes (x ∷ xs) ∷ words_after [] cs
-finish x xs cs more c blank e =
-    ap (words_after (x ∷ xs)) e
-    ∙ (cond-true (is_whitespace c) _ _ blank
-    ∙ ap (λ ws. encodes (x ∷ xs) ∷ ws) (sym (ap (words_after []) e ∙ cond-true (is_whitespace c) _ _ blank)))
-
--- a word ends with the text, or before white space
-ends : (x : ℕ) (xs rest more : List ℕ) → EmptyOrStartsWithPassing is_whitespace rest more → words_after (x ∷ xs) (decodes rest) ≡ encodes (x ∷ xs) ∷ words_after [] (decodes rest)
-ends x xs [] more opens =
-    ap (words_after (x ∷ xs)) chars-nil ∙ ap (λ cs. encodes (x ∷ xs) ∷ words_after [] cs) (sym chars-nil)
-ends x xs (b ∷ bs) more opens =
-    let o = opens (omega arith) in
-    finish x xs (decodes (b ∷ bs)) (decodes more) o.0 o.1 (ap decodes o.2 ∙ first_char o.0 more)
-
-one_word : (xs rest more : List ℕ) → 0 < length (encodes xs) → NonePass is_whitespace xs → EmptyOrStartsWithPassing is_whitespace rest more
-    → words_after [] (xs ++ decodes rest) ≡ encodes xs ∷ words_after [] (decodes rest)
-one_word [] rest more some solid opens = absurd (omega arith)
-one_word (x ∷ xs) rest more some solid opens = gather [] (x ∷ xs) (decodes rest) solid ∙ ends x xs rest more opens
-
-no_word : (bs : List ℕ) → NoCharPasses is_not_whitespace bs → words_of bs ≡ []
+no_words : words_of [] ≡ []
 unfolding words_of
-no_word bs blank =
-    let gs = blank.0 in
-    let chars = ap decodes (sym blank.1 ∙ sym (append-nil (encodes gs))) ∙ first_chars gs [] in
-    ap (words_after []) chars ∙ (skip_white gs (decodes []) blank.2 ∙ ap (words_after []) chars-nil)
+no_words = rw chars-nil
 
-next_word : (bs gap word rest more : List ℕ) → bs ≡ gap ++ (word ++ rest) → 0 < length word
-    → NoCharPasses is_not_whitespace gap → NoCharPasses is_whitespace word → EmptyOrStartsWithPassing is_whitespace rest more → words_of bs ≡ word ∷ words_of rest
+skip_gap : (gap rest : List ℕ) → NonePass is_not_whitespace gap → words_of (encode_utf8_all gap ++ rest) ≡ words_of rest
 unfolding words_of
-next_word bs gap word rest more e some blank solid opens =
-    let gs = blank.0 in
-    let xs = solid.0 in
-    let front = ap decodes (e ∙ ap (λ w. w ++ (word ++ rest)) (sym blank.1)) ∙ first_chars gs (word ++ rest) in
-    let back = ap decodes (ap (λ w. w ++ rest) (sym solid.1)) ∙ first_chars xs rest in
-    let long : 0 < length (encodes xs) = subst (λ w. 0 < length w) (sym solid.1) some in
-    ap (words_after []) front
-    ∙ (skip_white gs (decodes (word ++ rest)) blank.2
-    ∙ (ap (words_after []) back
-    ∙ (one_word xs rest more long solid.2 opens
-    ∙ ap (λ w. w ∷ words_after [] (decodes rest)) solid.1)))
+skip_gap [] rest blank = refl
+skip_gap (c ∷ cs) rest blank = rw (append_assoc, first_char, not-false (is_whitespace c) blank.0) (skip_gap cs rest blank.1)
+
+-- a word that has begun goes on, and ends with the text or before white space
+rest_of_word : (x : ℕ) (xs more rest after : List ℕ) → NonePass is_whitespace more → EmptyOrStartsWithPassing is_whitespace rest after
+    → words_after (x ∷ xs) (chars (encode_utf8_all more ++ rest)) ≡ encode_utf8_all (x ∷ xs ++ more) ∷ words_after [] (chars rest)
+rest_of_word x xs [] [] after solid opens = rw (append-nil xs, chars-nil)
+rest_of_word x xs [] (b ∷ bs) after solid opens = let (c, white, is, scalar) = opens (omega arith) in rw (append-nil xs, is, first_char, white)
+rest_of_word x xs (c ∷ cs) rest after solid opens = rw (append_assoc, first_char, solid.0, rest_of_word x (xs ++ c ∷ []) cs rest after solid.1 opens, append_assoc xs (c ∷ []) cs)
+
+first_word : (word rest after : List ℕ) → 0 < length (encode_utf8_all word) → NonePass is_whitespace word → EmptyOrStartsWithPassing is_whitespace rest after
+    → words_of (encode_utf8_all word ++ rest) ≡ encode_utf8_all word ∷ words_of rest
+unfolding words_of
+first_word [] rest after some solid opens = absurd (omega arith)
+first_word (x ∷ xs) rest after some solid opens = rw (append_assoc, first_char, solid.0) (rest_of_word x [] xs rest after solid.1 opens)
 
 -- what `next` does
-pub takes : (s t : SplitWhitespace) (r : Option (Bor (List ℕ)))
-    → MatchOption r ((t ≡ s) × NoCharPasses is_not_whitespace (rest_of s)) (λ x. (gap : List ℕ) × (rest_of s ≡ gap ++ (x.now ++ rest_of t)) × (0 < length x.now) × NoCharPasses is_not_whitespace gap × NoCharPasses is_whitespace x.now × ((more : List ℕ) × EmptyOrStartsWithPassing is_whitespace (rest_of t) more))
-    → Taken (words_of (rest_of s)) r (words_of (rest_of t))
-takes s t None steps = let none = no_word (rest_of s) steps.1 in (none, ap (λ v. words_of (rest_of v)) steps.0 ∙ none)
-takes s t (Some x) steps = next_word (rest_of s) steps.0 x.now (rest_of t) steps.5.0 steps.1 steps.2 steps.3 steps.4 steps.5.1
+pub takes : (s t : SplitWhitespace) (r : Option (Bor (List ℕ))) → split_whitespace_steps s r t → Taken (words_of (rest_of s)) r (words_of (rest_of t))
+takes s t None (same, (gap, spells, blank)) =
+    let none = simp append-nil at (skip_gap gap [] blank) ∙ no_words in
+    rw (same, ← spells) (none, none)
+takes s t (Some word) (gap, cut, some, (cs, spelt, blank), (ds, spells, solid), (after, opens)) =
+    rw (cut, ← spelt, skip_gap cs (word.now ++ rest_of t) blank, ← spells) (first_word ds (rest_of t) after (rw spells some) solid opens)
+
+-- one word fewer is left
+pub progress : (s t : Words) (r : Option (Bor (List ℕ))) → Taken (left s) r (left t) → MakesProgress (λ _. Unit {0}) (λ words. at_most (length (left words))) s r t
+progress s t None taken = record { on = λ _. tt; keeps = tt; rests = λ finite. tt }
+progress s t (Some word) taken = record { on = λ _. (tt, tt, rw taken (omega arith)); keeps = tt; rests = λ _. tt }

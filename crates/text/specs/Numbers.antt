@@ -1,5 +1,6 @@
 -- The number that a word writes.
-use Rattle.std.specs.Prelude.{ℕ, ◌+◌, ◌*◌, ◌^◌, Bool, cond, List, [], ◌∷◌, take, drop, Some, None, codes, Option, nat_lt}
+use Rattle.std.specs.Prelude.{ℕ, ◌+◌, ◌*◌, ◌^◌, Bool, cond, List, [], ◌∷◌, take, drop, Some, None, codes, Option, nat_lt, nat_le}
+use Rattle.std.specs.Option.{option_and_then}
 use Rattle.std.specs.Char.{digit_value}
 use Rattle.std.specs.Str.{bytes_eq}
 
@@ -23,3 +24,7 @@ hexadecimal word = bytes_eq (take 2 word) (codes "0x")
 
 abbrev pub number_of : List ℕ → Option ℕ
 number_of word = cond (hexadecimal word) (numeral_of 16 (drop 2 word)) (numeral_of 10 word)
+
+-- a number that is at most so large
+abbrev pub number_up_to : ℕ → List ℕ → Option ℕ
+number_up_to most word = option_and_then (λ n. cond (nat_le n most) (Some n) None) (number_of word)

@@ -1,11 +1,11 @@
 -- What the next words of a line say, with the words behind them; none where they say no such thing.
-use Rattle.std.specs.Prelude.{◌≡◌, ℕ, cond, List, [], ◌∷◌, Some, None, Ok, Err, Option, Result, nat_le}
+use Rattle.std.specs.Prelude.{◌≡◌, ℕ, List, [], ◌∷◌, Some, None, Ok, Err, Option, Result}
 use Rattle.std.specs.Borrow.{Bor}
 use Rattle.std.specs.Option.{option_map}
 use Rattle.x86.specs.declared.instruction.Form.{Form}
 use Rattle.x86.specs.declared.instruction.Width.{Width}
-use Rattle.text.specs.Tables.{form_of, width_of}
-use Rattle.text.specs.Numbers.{number_of}
+use Rattle.text.specs.Tables.{form_of, width_named}
+use Rattle.text.specs.Numbers.{number_of, number_up_to}
 
 abbrev pub Phrase : Type 0 → Type 0
 Phrase X = Option (X × List (List ℕ))
@@ -43,10 +43,10 @@ abbrev pub number_in : List (List ℕ) → Phrase ℕ
 number_in ws = meant number_of ws
 
 abbrev pub up_to_in : ℕ → List (List ℕ) → Phrase ℕ
-up_to_in most ws = chain (number_in ws) (λ n rest. cond (nat_le n most) (Some (n, rest)) None)
+up_to_in most ws = meant (number_up_to most) ws
 
 abbrev pub form_in : List (List ℕ) → Phrase Form
 form_in ws = meant form_of ws
 
 abbrev pub width_in : List (List ℕ) → Phrase Width
-width_in ws = chain (number_in ws) (λ n rest. option_map (λ w. (w, rest)) (width_of n))
+width_in ws = meant width_named ws

@@ -1,6 +1,5 @@
 -- The words of a text: its characters, cut at white space.
-use Rattle.std.specs.Prelude.{◌≡◌, ℕ, cond, List, [], ◌∷◌, ◌++◌, Some, None, Option}
-use Rattle.std.proofs.Math.Utf8.{encodes}
+use Rattle.std.specs.Prelude.{◌≡◌, ℕ, cond, List, [], ◌∷◌, ◌++◌, Some, None, Option, encode_utf8_all}
 use Rattle.std.specs.Borrow.{Bor}
 use Rattle.std.specs.Str.Iter.{split_whitespace_rest}
 use Rattle.std.specs.Char.{is_whitespace}
@@ -10,7 +9,7 @@ use Rattle.text.specs.declared.words.Words.{Words}
 -- a word that has begun, unless it is empty, before those that follow
 abbrev pub ended : List ℕ → List (List ℕ) → List (List ℕ)
 ended [] ws = ws
-ended (c ∷ cs) ws = encodes (c ∷ cs) ∷ ws
+ended (c ∷ cs) ws = encode_utf8_all (c ∷ cs) ∷ ws
 
 -- the words of characters that follow those of a word
 abbrev pub words_after : List ℕ → List ℕ → List (List ℕ)

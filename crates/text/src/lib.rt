@@ -4,7 +4,9 @@
 pub mod number;
 pub mod problem;
 pub mod show;
+pub mod word;
 pub mod words;
 
 pub use problem::{Problem, Wanted};
+pub use word::Word;
 pub use words::Words;

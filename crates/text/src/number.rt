@@ -1,6 +1,9 @@
 // The number that a word writes.
-ghost use Rattle.std.specs.Prelude.{◌≡◌, ◌≤◌};
-ghost use Rattle.text.specs.Numbers.{number_of, numeral_of};
+ghost use Rattle.std.specs.Prelude.{◌≡◌, ◌≤◌, IfOk};
+ghost use Rattle.std.specs.Result.{result_ok};
+ghost use Rattle.text.specs.Numbers.{number_of, number_up_to, numeral_of};
+
+use crate::problem::Problem;
 
 // Decimal digits, or hexadecimal ones of either case after `0x`; below 2^64.
 pub fn number(word: &str) -> Option<u64>
@@ -10,6 +13,18 @@ pub fn number(word: &str) -> Option<u64>
         Some(digits) => numeral(digits, 16),
         None => numeral(word, 10),
     }
+}
+
+// A number that is not above `most`.
+pub fn number_up_to(word: &str, most: u64) -> Result<u64, Problem<'_>>
+    ensures value { result_ok result ≡ number_up_to most word.now }
+    ensures bound { IfOk result (λ n. n ≤ most) }
+{
+    let value = number(word).ok_or(Problem::NotNumber(word))?;
+    if value > most {
+        return Err(Problem::TooLarge { value, most });
+    }
+    Ok(value)
 }
 
 fn numeral(digits: &str, base: u32) -> Option<u64>

@@ -1,8 +1,9 @@
 // What can be wrong with a line.
 use std::fmt;
+use thiserror::Error;
 
 // What a line lacks where it ends.
-#[derive(Clone, Copy)]
+#[derive(Clone, Copy, Debug)]
 pub enum Wanted {
     Number,
     Mnemonic,
@@ -10,39 +11,32 @@ pub enum Wanted {
 }
 
 // A problem shows the words of the line that it is about.
-#[derive(Clone, Copy)]
+#[derive(Clone, Copy, Debug, Error)]
 pub enum Problem<'a> {
+    #[error("the line ends where a {0} is wanted")]
     Missing(Wanted),
+    #[error("{0} is no number of 64 bits")]
     NotNumber(&'a str),
+    #[error("{value} is above {most}")]
     TooLarge { value: u64, most: u64 },
+    #[error("{0} is no mnemonic")]
     UnknownMnemonic(&'a str),
+    #[error("form {0} is neither short nor near")]
     UnknownForm(&'a str),
+    #[error("width {0} is none of 16, 32 and 64")]
     UnknownWidth(u64),
+    #[error("bitness {0} is none of 16, 32 and 64")]
     UnknownBitness(u32),
+    #[error("unexpected {0}")]
     Unexpected(&'a str),
 }
 
 impl fmt::Display for Wanted {
     fn fmt<W: fmt::Write>(&self, f: &mut fmt::Formatter<W>) -> fmt::Result {
-        match self {
-            Wanted::Number => write!(f, "number"),
-            Wanted::Mnemonic => write!(f, "mnemonic"),
-            Wanted::Form => write!(f, "form"),
-        }
-    }
-}
-
-impl<'a> fmt::Display for Problem<'a> {
-    fn fmt<W: fmt::Write>(&self, f: &mut fmt::Formatter<W>) -> fmt::Result {
-        match self {
-            Problem::Missing(wanted) => write!(f, "the line ends where a {wanted} is wanted"),
-            Problem::NotNumber(word) => write!(f, "{word} is no number of 64 bits"),
-            Problem::TooLarge { value, most } => write!(f, "{value} is above {most}"),
-            Problem::UnknownMnemonic(word) => write!(f, "{word} is no mnemonic"),
-            Problem::UnknownForm(word) => write!(f, "form {word} is neither short nor near"),
-            Problem::UnknownWidth(bits) => write!(f, "width {bits} is none of 16, 32 and 64"),
-            Problem::UnknownBitness(bits) => write!(f, "bitness {bits} is none of 16, 32 and 64"),
-            Problem::Unexpected(word) => write!(f, "unexpected {word}"),
-        }
+        f.write_str(match self {
+            Wanted::Number => "number",
+            Wanted::Mnemonic => "mnemonic",
+            Wanted::Form => "form",
+        })
     }
 }

@@ -1,6 +1,5 @@
-// How a listing shows addresses, bytes and constants.
+// How a listing shows addresses and bytes.
 use std::fmt;
-use x86::ConstantOffsets;
 
 // Upper-case hexadecimal after `0x`.
 #[derive(Clone, Copy)]
@@ -9,10 +8,6 @@ pub struct Address(pub u64);
 // Each byte as two upper-case digits behind a space, so that no bytes leave the word before them bare.
 #[derive(Clone, Copy)]
 pub struct Bytes<'a>(pub &'a [u8]);
-
-// Offset and size of the displacement, of the immediate and of the second immediate.
-#[derive(Clone, Copy)]
-pub struct Constants(pub ConstantOffsets);
 
 impl fmt::Display for Address {
     fn fmt<W: fmt::Write>(&self, f: &mut fmt::Formatter<W>) -> fmt::Result {
@@ -27,12 +22,5 @@ impl<'a> fmt::Display for Bytes<'a> {
             write!(f, " {byte:02X}")?;
         }
         Ok(())
-    }
-}
-
-impl fmt::Display for Constants {
-    fn fmt<W: fmt::Write>(&self, f: &mut fmt::Formatter<W>) -> fmt::Result {
-        let constants = self.0;
-        write!(f, "{constants}")
     }
 }

@@ -1,4 +1,5 @@
 pub mod Widths
+pub mod Bitness
 pub mod Constants
 pub mod Reading
 pub mod Instructions

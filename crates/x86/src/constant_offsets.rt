@@ -5,7 +5,7 @@ ghost use Rattle.x86.specs.Constants.{no_constants, with_displacement, with_imme
 use std::fmt;
 
 // Offset and size in bytes of the displacement and of up to two immediates; a size of 0 says that there is none.
-#[derive(Clone, Copy, PartialEq, Eq, Debug)]
+#[derive(Clone, Copy, PartialEq, Eq, Debug, Default)]
 pub struct ConstantOffsets {
     pub displacement_offset: u8,
     pub displacement_size: u8,
@@ -20,14 +20,7 @@ impl ConstantOffsets {
     pub fn none() -> ConstantOffsets
         ensures { result ≡ no_constants }
     {
-        ConstantOffsets {
-            displacement_offset: 0,
-            displacement_size: 0,
-            immediate_offset: 0,
-            immediate_size: 0,
-            immediate_offset2: 0,
-            immediate_size2: 0,
-        }
+        ConstantOffsets::default()
     }
 
     pub fn with_displacement(self, offset: u8, size: u8) -> ConstantOffsets

@@ -1,4 +1,5 @@
 // One instruction of the code that is moved, as its reader describes it.
+ghost use Rattle.x86.specs.Bitness.{Denotes};
 
 #[derive(Clone, Copy, PartialEq, Eq, Debug)]
 pub enum Family {
@@ -27,6 +28,25 @@ pub enum Width {
     Bits16,
     Bits32,
     Bits64,
+}
+
+// A number of bits that no code and no instruction has.
+#[derive(Clone, Copy, PartialEq, Eq, Debug)]
+pub struct UnknownWidth(pub u64);
+
+impl TryFrom<u64> for Width {
+    type Error = UnknownWidth;
+
+    ghost try_from_gives = { Denotes };
+
+    fn try_from(bits: u64) -> Result<Width, UnknownWidth> {
+        match bits {
+            16 => Ok(Width::Bits16),
+            32 => Ok(Width::Bits32),
+            64 => Ok(Width::Bits64),
+            _ => Err(UnknownWidth(bits)),
+        }
+    }
 }
 
 #[derive(Clone, Copy, PartialEq, Eq, Debug)]

@@ -1,7 +1,18 @@
-use Rattle.std.proofs.Common.{sym, rules}
-use Rattle.script.specs.Names.{conditions, numbered}
-use Rattle.text.proofs.Unlisted.{unlisted}
+use Rattle.std.proofs.Common.{rules, tests, ◌≡◌, ◌∙◌, bytes_eq}
+use Rattle.std.proofs.lemmas.Iterator.{YieldsList-from_slice}
+use Rattle.std.proofs.lemmas.Iterator.Search.{position_from_yields_List}
+use Rattle.std.proofs.lemmas.Iterator.Adapters.{position_from-zero}
+use Rattle.script.specs.Names.{condition_of}
+use Rattle.script.specs.declared.mnemonic.TheConstants.{CONDITIONS}
+use Rattle.script.proofs.mnemonic.condition.Goals.{After-map}
 use Rattle.script.proofs.mnemonic.condition.Goals as goal
 
-pub returns-in_default : goal.returns-in_default
-returns-in_default c = record { value = sym (unlisted (numbered 0 conditions) c.args.word.now (search rules)) }
+-- `position` finds the first place whose name is the word, and that place stands beside the name in the definition's list
+place : (c : After-map) → c.position.result ≡ condition_of c.args.word.now
+place c =
+    position_from_yields_List (λ name. bytes_eq c.args.word.now name.now) _ _ _ c.position.ensures.ran
+    (YieldsList-from_slice _ c.iter.ensures.rest) (λ x b q k. search (rules, tests))
+    ∙ position_from-zero (λ name. bytes_eq c.args.word.now name.now) CONDITIONS
+
+pub returns : goal.returns
+returns c = let placed = place c in search rules

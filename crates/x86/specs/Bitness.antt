@@ -1,0 +1,16 @@
+-- The widths, by their numbers of bits.
+use Rattle.std.specs.Prelude.{◌≡◌, ℕ, ◌==◌, cond, Ok, Err, Result}
+use Rattle.x86.specs.declared.instruction.Width.{Width}
+use Rattle.x86.specs.declared.instruction.Width.TheVariants.{Bits16, Bits32, Bits64}
+use Rattle.x86.specs.declared.instruction.UnknownWidth.{UnknownWidth}
+
+-- 16, 32 and 64 are widths, and no other number is
+abbrev pub width_of_bits : ℕ → Result Width UnknownWidth
+width_of_bits bits =
+    cond (bits == 16) (Ok Bits16)
+    (cond (bits == 32) (Ok Bits32)
+    (cond (bits == 64) (Ok Bits64)
+    (Err (record { 0 = bits }))))
+
+abbrev pub Denotes : ℕ → Result Width UnknownWidth → Type 0
+Denotes bits r = r ≡ width_of_bits bits
