@@ -1,6 +1,6 @@
 -- Branches behind prefixes of their own, read by the manual.
-use Rattle.std.proofs.Common.{◌≡◌, ℕ, ◌+◌, ◌-◌, ◌/◌, ◌%◌, ◌≤◌, true, false, cond, ◌||◌, eqb, List, [], ◌∷◌, ◌++◌, length, ℤ, pos, ◌+ℤ◌, Some, None, refl, ap, ◌∙◌, append_assoc, arith, length-append, w8}
-use mir.Syntax.{Width as Span}
+use Rattle.std.proofs.Common.{◌≡◌, ℕ, ◌+◌, ◌-◌, ◌/◌, ◌%◌, ◌≤◌, true, false, eqb, List, [], ◌∷◌, ◌++◌, length, ℤ, pos, ◌+ℤ◌, Some, refl, ap, append_assoc, arith, length-append}
+use Rattle.std.specs.Int.{Width as Span, w8}
 use Rattle.std.proofs.lemmas.List.{append-nil}
 use Rattle.std.proofs.lemmas.Bool.Decides.{nat_tests}
 use Rattle.x86.specs.declared.instruction.Family.TheVariants.{Jcc, Jmp, Call}
@@ -15,7 +15,6 @@ use Rattle.encoder.specs.Fields.{branch_field, field_size, fits, displacement}
 use Rattle.encoder.specs.Encodings.{BranchReads}
 use Rattle.encoder.specs.Laws.{branch_width}
 use Rattle.encoder.specs.Layouts.{field_bytes}
-use Rattle.encoder.proofs.Options.{false_true, if_true}
 use Rattle.encoder.proofs.Shapes.{length_field}
 use Rattle.encoder.proofs.Fields.{byte_back, word_back, double_back}
 use Rattle.encoder.proofs.Wraps.{arrives}
@@ -28,10 +27,10 @@ branch_span Near w = near_field w
 -- the field of a branch lands where its displacement leads
 field_reads : (w : Width) (f : Form) (next : ℕ) (made : ℕ → Transfer) (d : ℤ) → fits (branch_field f w) d ≡ true
     → relative w next made (branch_span f w) (field_bytes (branch_field f w) d) ≡ Some (made (residue (span w) (pos next +ℤ d)))
-field_reads w Short next made d h = ap (λ z. Some (made (residue (span w) (pos next +ℤ z)))) (byte_back d h)
-field_reads Bits16 Near next made d h = ap (λ z. Some (made (residue (span Bits16) (pos next +ℤ z)))) (word_back d h)
-field_reads Bits32 Near next made d h = ap (λ z. Some (made (residue (span Bits32) (pos next +ℤ z)))) (double_back d h)
-field_reads Bits64 Near next made d h = ap (λ z. Some (made (residue (span Bits64) (pos next +ℤ z)))) (double_back d h)
+field_reads w Short next made d h = rw (byte_back d h)
+field_reads Bits16 Near next made d h = rw (word_back d h)
+field_reads Bits32 Near next made d h = rw (double_back d h)
+field_reads Bits64 Near next made d h = rw (double_back d h)
 
 -- an opcode that begins with no prefix, and reads as a branch with its field behind it
 pub record Opens (made : ℕ → Transfer) (f : Form) (op : List ℕ) : Type 0 where
@@ -41,26 +40,14 @@ pub record Opens (made : ℕ → Transfer) (f : Form) (op : List ℕ) : Type 0 w
 
 pub jcc_opens : (c : ℕ) (f : Form) → c ≤ 15 → Opens (jcc c) f (opcode_of Jcc c f)
 jcc_opens c Short h =
-    let op = 0x70 + c in
-    let none : is_branch_prefix op ≡ false = grind (arith, nat_tests) in
-    let row : eqb (op / 16) 7 ≡ true = grind (arith, nat_tests) in
-    let which : op % 16 ≡ c = omega arith in
-    record {
-      bare = λ xs. ap (λ b. cond b (behind_prefixes xs) (op ∷ xs)) none;
-      unsized = λ xs. ap (λ b. cond b (eqb op 0x66 || resized xs) false) none;
-      opens =
-          λ w next xs. if_true (eqb (op / 16) 7) (relative w next (jcc (op % 16)) w8 xs) _ row ∙ ap (λ k. relative w next (jcc k) w8 xs) which;
-    }
+    let none : is_branch_prefix (0x70 + c) ≡ false = grind (arith, nat_tests) in
+    let row : eqb ((0x70 + c) / 16) 7 ≡ true = grind (arith, nat_tests) in
+    let which : (0x70 + c) % 16 ≡ c = omega arith in
+    record { bare = λ xs. rw none; unsized = λ xs. rw none; opens = λ w next xs. rw (row, which) }
 jcc_opens c Near h =
-    let op = 0x80 + c in
-    let row : eqb (op / 16) 8 ≡ true = grind (arith, nat_tests) in
-    let which : op % 16 ≡ c = omega arith in
-    record {
-      bare = λ xs. refl;
-      unsized = λ xs. refl;
-      opens =
-          λ w next xs. if_true (eqb (op / 16) 8) (relative w next (jcc (op % 16)) (near_field w) xs) None row ∙ ap (λ k. relative w next (jcc k) (near_field w) xs) which;
-    }
+    let row : eqb ((0x80 + c) / 16) 8 ≡ true = grind (arith, nat_tests) in
+    let which : (0x80 + c) % 16 ≡ c = omega arith in
+    record { bare = λ xs. refl; unsized = λ xs. refl; opens = λ w next xs. rw (row, which) }
 
 pub jmp_opens : (c : ℕ) (f : Form) → Opens jmp f (opcode_of Jmp c f)
 jmp_opens c Short = record { bare = λ xs. refl; unsized = λ xs. refl; opens = λ w next xs. refl }
@@ -72,17 +59,12 @@ call_opens c = record { bare = λ xs. refl; unsized = λ xs. refl; opens = λ w 
 -- 66, or its absence, gives the branch its width
 sized_reads : (mode w : Width) (made : ℕ → Transfer) (f : Form) (op : List ℕ) → branch_width mode w ≡ true → Opens made f op → (next : ℕ) (xs : List ℕ)
     → opcode (operand_size mode (resized (size_prefix mode w ++ (op ++ xs)))) next (behind_prefixes (size_prefix mode w ++ (op ++ xs))) ≡ relative w next made (branch_span f w) xs
-sized_reads Bits64 Bits64 made f op h o next xs = ap (opcode Bits64 next) (o.bare xs) ∙ o.opens Bits64 next xs
-sized_reads Bits64 Bits32 made f op h o next xs = false_true h
-sized_reads Bits64 Bits16 made f op h o next xs = false_true h
-sized_reads Bits32 Bits64 made f op h o next xs = false_true h
-sized_reads Bits32 Bits32 made f op h o next xs =
-    ap (λ r. opcode (operand_size Bits32 r) next (behind_prefixes (op ++ xs))) (o.unsized xs) ∙ (ap (opcode Bits32 next) (o.bare xs) ∙ o.opens Bits32 next xs)
-sized_reads Bits32 Bits16 made f op h o next xs = ap (opcode Bits16 next) (o.bare xs) ∙ o.opens Bits16 next xs
-sized_reads Bits16 Bits64 made f op h o next xs = false_true h
-sized_reads Bits16 Bits32 made f op h o next xs = ap (opcode Bits32 next) (o.bare xs) ∙ o.opens Bits32 next xs
-sized_reads Bits16 Bits16 made f op h o next xs =
-    ap (λ r. opcode (operand_size Bits16 r) next (behind_prefixes (op ++ xs))) (o.unsized xs) ∙ (ap (opcode Bits16 next) (o.bare xs) ∙ o.opens Bits16 next xs)
+sized_reads Bits64 Bits64 made f op h o next xs = rw (o.bare xs) (o.opens Bits64 next xs)
+sized_reads Bits32 Bits32 made f op h o next xs = rw (o.unsized xs, o.bare xs) (o.opens Bits32 next xs)
+sized_reads Bits32 Bits16 made f op h o next xs = rw (o.bare xs) (o.opens Bits16 next xs)
+sized_reads Bits16 Bits32 made f op h o next xs = rw (o.bare xs) (o.opens Bits32 next xs)
+sized_reads Bits16 Bits16 made f op h o next xs = rw (o.unsized xs, o.bare xs) (o.opens Bits16 next xs)
+sized_reads mode w made f op h o next xs = cc
 
 -- prefixes of a branch, 66 not among them
 abbrev pub Hints : List ℕ → Type 0
@@ -91,12 +73,11 @@ Hints (p ∷ ps) = (is_branch_prefix p ≡ true) × (eqb p 0x66 ≡ false) × Hi
 
 behind_hints : (ps ys : List ℕ) → Hints ps → behind_prefixes (ps ++ ys) ≡ behind_prefixes ys
 behind_hints [] ys h = refl
-behind_hints (p ∷ ps) ys h = ap (λ b. cond b (behind_prefixes (ps ++ ys)) (p ∷ (ps ++ ys))) h.0 ∙ behind_hints ps ys h.2
+behind_hints (p ∷ ps) ys h = rw h.0 (behind_hints ps ys h.2)
 
 resized_hints : (ps ys : List ℕ) → Hints ps → resized (ps ++ ys) ≡ resized ys
 resized_hints [] ys h = refl
-resized_hints (p ∷ ps) ys h =
-    ap (λ b. cond b (eqb p 0x66 || resized (ps ++ ys)) false) h.0 ∙ (ap (λ b. b || resized (ps ++ ys)) h.1 ∙ resized_hints ps ys h.2)
+resized_hints (p ∷ ps) ys h = rw (h.0, h.1) (resized_hints ps ys h.2)
 
 -- a branch lands on its target
 pub branch_reads : (mode w : Width) (made : ℕ → Transfer) (f : Form) (op ps : List ℕ) (t a : ℕ) → branch_width mode w ≡ true → Opens made f op → Hints ps
@@ -118,10 +99,6 @@ branch_reads mode w made f op ps t a h o p near =
     let long : length bs ≡ n = omega (arith, length-append s.head (xs ++ s.tail), length-append xs s.tail, length_field k d) in
     let place : length s.head ≡ length bs - field_size k = omega arith in
     record {
-      lands =
-          ap (λ m. opcode (operand_size mode (resized bs)) (a + m) (behind_prefixes bs)) long
-          ∙ (ap (λ r. opcode (operand_size mode r) next (behind_prefixes bs)) (ap resized is ∙ resized_hints ps zs p)
-          ∙ (ap (λ y. opcode (operand_size mode (resized zs)) next y) (ap behind_prefixes is ∙ behind_hints ps zs p)
-          ∙ (sized_reads mode w made f op h o next xs ∙ (field_reads w f next made d near ∙ ap (λ z. Some (made z)) (arrives w t next)))));
+      lands = rw (long, is, resized_hints ps zs p, behind_hints ps zs p, sized_reads mode w made f op h o next xs, field_reads w f next made d near, arrives w t next);
       shown = ap (λ m. immediate_at m (field_size k)) place;
     }

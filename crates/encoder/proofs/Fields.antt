@@ -7,7 +7,7 @@ use Rattle.std.proofs.lemmas.Int.{ints}
 use Rattle.x86.specs.Widths.{little, bytes_of}
 use Rattle.encoder.specs.Fields.{signed}
 
--- the numbers of the signed integer of that width are meant
+-- the same by absolute values: the numbers that a signed integer of that width holds
 pub signed_is : (s : Width) (z : ℤ) → signed (bits s) z ≡ ltb (mag z) (2 ^ hbits s)
 signed_is w8 z = grind (arith, ints)
 signed_is w16 z = grind (arith, ints)

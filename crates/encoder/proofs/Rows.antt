@@ -12,12 +12,14 @@ use Rattle.encoder.specs.Encodings.{stored}
 use Rattle.encoder.specs.Laid.{laid}
 use Rattle.encoder.specs.Layouts.{field_bytes, filled}
 
+-- the first bytes of a displacement are those that its field holds
 pub taken_field : (f : Field) (d : ℤ) → take (field_size f) (to_le_bytes w64 (cast_unsigned w64 d)) ≡ field_bytes f d
 taken_field Absent d = refl
 taken_field Byte d = refl
 taken_field Word d = refl
 taken_field Double d = grind (arith, common_steps)
 
+-- each part qk is a part of the encoding, and each rest rk what lay behind it
 pub parts_put : (i : Instruction) (l : Layout) (d : ℤ) (row : List ℕ) {held q1 q2 q3 q4 r1 r2 r3 r4 : List ℕ}
     → held ≡ field_bytes (field_of i) d
     → q1 ≡ l.prefixes.now → r1 ≡ drop (length l.prefixes.now) row

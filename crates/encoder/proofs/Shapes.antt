@@ -37,6 +37,3 @@ pub code_filled : (i : Instruction) (s : Shape) (t a n : ℕ) (f : Field) (d : �
 code_filled i s t a n f d e p q r =
     let reached : reaches i n t a ≡ true = ap (λ f. fits f (displacement i.width t (a + n))) (sym p) ∙ (ap (fits f) (sym q) ∙ r) in
     code_written i s t a n e ∙ rw (reached, q)
-
-pub size_within : (i : Instruction) (s : Shape) (n : ℕ) → size_of i (Some s) ≡ Some n → (1 ≤ n) × (n ≤ 15)
-size_within i s n e = (sized i s n e).within

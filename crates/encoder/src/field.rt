@@ -4,6 +4,7 @@ ghost use Rattle.encoder.specs.Fields.{branch_field, field_of, field_size, fits}
 
 use x86::{Family, Form, Instruction, Width};
 
+// `Absent` has a size and holds what it is asked to, so it is a field like the others, and no `None`.
 #[derive(Clone, Copy)]
 pub enum Field {
     Absent,

@@ -31,6 +31,7 @@ pub enum Problem<'a> {
     Unexpected(&'a str),
 }
 
+// A word of a message, and no error by itself.
 impl fmt::Display for Wanted {
     fn fmt<W: fmt::Write>(&self, f: &mut fmt::Formatter<W>) -> fmt::Result {
         f.write_str(match self {

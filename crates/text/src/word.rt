@@ -29,6 +29,7 @@ impl Word for u64 {
     }
 }
 
+// Numbers of fewer bits. Each has an impl of its own, since one for all number types would overlap those below.
 impl Word for u32 {
     ghost meaning = { number_up_to 0xFFFF_FFFF };
 

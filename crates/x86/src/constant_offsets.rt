@@ -4,7 +4,8 @@ ghost use Rattle.x86.specs.Constants.{no_constants, with_displacement, with_imme
 
 use std::fmt;
 
-// Offset and size in bytes of the displacement and of up to two immediates; a size of 0 says that there is none.
+// Offset and size in bytes of the displacement and of up to two immediates. A size of 0, and no `Option`, says that there
+// is none, since these are iced-x86's six numbers.
 #[derive(Clone, Copy, PartialEq, Eq, Debug, Default)]
 pub struct ConstantOffsets {
     pub displacement_offset: u8,
@@ -33,7 +34,7 @@ impl ConstantOffsets {
         }
     }
 
-    // The first immediate.
+    // The first immediate. What it shares with `with_displacement` is a shape; the fields have other names.
     pub fn with_immediate(self, offset: u8, size: u8) -> ConstantOffsets
         ensures { result ≡ with_immediate self offset size }
     {

@@ -52,12 +52,13 @@ impl TryFrom<u64> for Width {
 #[derive(Clone, Copy, PartialEq, Eq, Debug)]
 pub struct Instruction {
     pub family: Family,
-    // of a jcc: o, no, b, ae, e, ne, be, a, s, ns, p, np, l, ge, le, g from 0; its lowest bit negates it
+    // of a jcc: o, no, b, ae, e, ne, be, a, s, ns, p, np, l, ge, le, g from 0; its lowest bit negates it. It is no enum, since
+    // a number past 15 has an answer too: no size.
     pub condition: u8,
     pub form: Form,
     // of a branch its operand size; of a memory operand 64 for base RIP, 32 for base EIP
     pub width: Width,
-    // which instruction of the family it is, as its encoder numbers them
+    // which instruction of the family it is: a number, since each encoder numbers its own
     pub body: u32,
     pub old_address: u64,
     // where a branch goes or a memory operand points, in its low `width` bits
