@@ -13,7 +13,8 @@ pub trait Kind: Copy {
 
     ghost body_of: { Self → ℕ → ℕ };
 
-    // The kind of that number, if one has it.
+    // The kind of that number, if one has it. It is no `TryFrom`, since a number without a kind is no error: such a body is
+    // not listed.
     fn numbered(number: u32) -> Option<Self>
         ensures { result ≡ kind_of number };
 

@@ -1,13 +1,14 @@
 -- The shape that a draft of the code states.
-use Rattle.std.specs.Prelude.{ℕ, List, ◌++◌, None}
+use Rattle.std.specs.Prelude.{ℕ, List, [], ◌++◌, None}
 use Rattle.std.specs.Option.{option_to_list}
 use Rattle.x86.specs.Constants.{no_constants}
 use Rattle.encoder.specs.Layouts.{Shape}
 use Rattle.branches.specs.declared.draft.Draft.{Draft}
 use Rattle.branches.specs.declared.draft.Opcode.{Opcode}
-use Rattle.branches.specs.declared.draft.Opcode.TheVariants.{One, Two, Three, Four}
+use Rattle.branches.specs.declared.draft.Opcode.TheVariants.{Empty, One, Two, Three, Four}
 
 abbrev pub opcode_bytes : Opcode → List ℕ
+opcode_bytes Empty = []
 opcode_bytes (One bs) = bs
 opcode_bytes (Two bs) = bs
 opcode_bytes (Three bs) = bs

@@ -6,9 +6,11 @@ ghost use Rattle.branches.specs.Drafted.{opcode_bytes, bare, drafted};
 use encoder::Layout;
 use x86::ConstantOffsets;
 
-// All bytes between the prefix and the field.
+// All bytes between the prefix and the field, a case for each number of them: with the number in its type, an opcode would
+// give drafts of other types, and the kit's vector of fixed capacity is not copied.
 #[derive(Clone, Copy)]
 pub enum Opcode {
+    Empty,
     One([u8; 1]),
     Two([u8; 2]),
     Three([u8; 3]),
@@ -21,6 +23,7 @@ impl Opcode {
         ensures fits { length result.now ≤ 4 }
     {
         match self {
+            Opcode::Empty => &[],
             Opcode::One(bytes) => bytes,
             Opcode::Two(bytes) => bytes,
             Opcode::Three(bytes) => bytes,
@@ -29,6 +32,7 @@ impl Opcode {
     }
 }
 
+// Contracts read it by `drafted`: it is copied and its fields are open, so it is no model of the bytes.
 #[derive(Clone, Copy)]
 pub struct Draft {
     pub prefix: Option<u8>,

@@ -55,7 +55,8 @@ impl Layout<'_> {
         }
         let bytes = displacement.to_le_bytes();
         let held = &bytes[..field.size()];
-        // each part goes to the front of what is left of the row
+        // each part goes to the front of what is left of the row, one by one, since nothing is known of what a loop over
+        // them has written
         let (part, rest) = row.split_at_mut(self.prefixes.len());
         part.copy_from_slice(self.prefixes);
         let (part, rest) = rest.split_at_mut(self.opcode.len());

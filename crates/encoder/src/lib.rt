@@ -56,7 +56,8 @@ pub trait Encoder: Measure {
 
     // Writes the instruction, with that target in place of its own, as it stands at the address: its bytes go to the
     // start of the row, whose rest stays. A refusal leaves the whole row. Instruction, target and address stand apart, since
-    // a caller has each from another place; and the row is the caller's, as memory is fixed.
+    // the target need not be the instruction's own, and a struct of them would be built for one call; and the row is the
+    // caller's, as memory is fixed.
     fn encode(
         &self,
         ins: &Instruction,

@@ -1,5 +1,4 @@
 pub use Rattle.bodies.specs.Kinds
 pub use Rattle.branches.specs.Drafted
-pub mod Shapes
+pub use Rattle.field_shapes.specs.Shapes
 pub mod Makes
-pub mod FieldShapes

@@ -6,9 +6,9 @@ ghost use Rattle.std.specs.Option.{option_map};
 ghost use Rattle.encoder.specs.Layouts.{size_of, code_of};
 ghost use Rattle.branches.specs.Drafted.{drafted};
 ghost use Rattle.field_encoder.specs.Makes.{made_by};
-ghost use Rattle.field_encoder.specs.Shapes.{shape};
+ghost use Rattle.field_shapes.specs.Shapes.{shape};
 ghost use Rattle.encoder.proofs.ShapeLaws.{measure_laws, encoder_laws};
-ghost use Rattle.field_encoder.specs.FieldShapes.{field_shapes};
+ghost use Rattle.field_shapes.proofs.FieldShapes.{field_shapes};
 
 pub mod kinds;
 mod memory;
@@ -19,6 +19,7 @@ use branches::{Draft, branch};
 use encoder::{Encoder, Measure, Refusal, Row};
 use memory::memory_operand;
 use plain::plain_bytes;
+use thiserror::Error;
 use x86::{ConstantOffsets, Family, Instruction, Width};
 
 #[derive(Clone, Copy)]
@@ -26,8 +27,9 @@ pub struct FieldEncoder {
     bits: Width,
 }
 
-// Refusal 1: a field encoder has 16, 32 or 64 bits, and not these.
-#[derive(Clone, Copy, Debug)]
+// Refusal 1: a field encoder has 16, 32 or 64 bits, and not these. It is a type of its own, and holds what was asked for.
+#[derive(Clone, Copy, PartialEq, Eq, Debug, Error)]
+#[error("bitness {bitness} is none of 16, 32 and 64")]
 pub struct UnknownBitness {
     pub bitness: u32,
 }
@@ -40,19 +42,21 @@ impl FieldEncoder {
             .map(|bits| FieldEncoder { bits })
             .map_err(|_| UnknownBitness { bitness })
     }
-}
 
-// The encoding of an instruction with its displacement left out, if the body is listed.
-fn lay_out(bits: Width, ins: &Instruction) -> Option<Draft>
-    ensures { option_map drafted result ≡ shape bits ins.now }
-{
-    let low = (ins.body % 0x100) as u8;
-    let kind = ins.body / 0x100;
-    match ins.family {
-        Family::Jcc | Family::Jmp | Family::Call if ins.body == 0 => branch(bits, ins),
-        Family::Memory => memory_operand(bits, ins.width, MemoryKind::numbered(kind)?, low),
-        Family::Plain => plain_bytes(bits, PlainKind::numbered(kind)?, low),
-        _ => None,
+    // The encoding of an instruction with its displacement left out, if the body is listed.
+    fn lay_out(&self, ins: &Instruction) -> Option<Draft>
+        ensures { option_map drafted result ≡ shape self.now.bits ins.now }
+    {
+        let low = (ins.body % 0x100) as u8;
+        let kind = ins.body / 0x100;
+        let bits = self.bits;
+        // a match, since the families are a fixed list and each step takes other arguments
+        match ins.family {
+            Family::Jcc | Family::Jmp | Family::Call if ins.body == 0 => branch(bits, ins),
+            Family::Memory => memory_operand(bits, ins.width, MemoryKind::numbered(kind)?, low),
+            Family::Plain => plain_bytes(bits, PlainKind::numbered(kind)?, low),
+            _ => None,
+        }
     }
 }
 
@@ -68,7 +72,7 @@ impl Measure for FieldEncoder {
     }
 
     fn size(&self, ins: &Instruction) -> Option<usize> {
-        let draft = lay_out(self.bits, ins)?;
+        let draft = self.lay_out(ins)?;
         draft.layout().size(ins)
     }
 }
@@ -85,7 +89,7 @@ impl Encoder for FieldEncoder {
         address: u64,
         row: &mut Row,
     ) -> Result<(ConstantOffsets, usize), Refusal> {
-        let draft = lay_out(self.bits, ins).ok_or(Refusal::NoSize)?;
+        let draft = self.lay_out(ins).ok_or(Refusal::NoSize)?;
         draft.layout().write(ins, target, address, row)
     }
 }

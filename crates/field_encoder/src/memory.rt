@@ -2,20 +2,19 @@
 ghost use Rattle.std.specs.Prelude.{◌≡◌, ◌+◌, length};
 ghost use Rattle.std.specs.Option.{option_map, option_to_list};
 ghost use Rattle.branches.specs.Drafted.{drafted};
-ghost use Rattle.field_encoder.specs.Shapes.{base_prefix, moved, compared, memory_shape};
+ghost use Rattle.field_shapes.specs.Shapes.{base_prefix, moved, compared, memory_shape};
 
 use bodies::MemoryKind;
 use branches::{Draft, Opcode};
 use x86::{ConstantOffsets, Width};
 
-// 67 where the base is EIP, and where the displacement begins behind it and three bytes.
-fn base(width: Width) -> (Option<u8>, u8)
-    ensures prefix { option_to_list result.0 ≡ base_prefix width }
-    ensures offset { result.1 ≡ length (base_prefix width) + 3 }
+// 67 where the base is EIP.
+fn base(width: Width) -> Option<u8>
+    ensures { option_to_list result ≡ base_prefix width }
 {
     match width {
-        Width::Bits32 => (Some(0x67), 4),
-        Width::Bits16 | Width::Bits64 => (None, 3),
+        Width::Bits32 => Some(0x67),
+        Width::Bits16 | Width::Bits64 => None,
     }
 }
 
@@ -27,11 +26,12 @@ fn moved_register(width: Width, op: u8, r: u8) -> Option<Draft>
         return None;
     }
     let rex = if r < 8 { 0x48 } else { 0x4C };
-    let (prefix, offset) = base(width);
+    let prefix = base(width);
+    let offset = prefix.as_slice().len() as u8 + 3;
     Some(Draft {
         prefix,
         constants: ConstantOffsets::none().with_displacement(offset, 4),
-        ..Opcode::Three([rex, op, 0x05 + 8 * (r % 8)]).into()
+        ..Draft::from(Opcode::Three([rex, op, 0x05 + 8 * (r % 8)]))
     })
 }
 
@@ -39,7 +39,8 @@ fn moved_register(width: Width, op: u8, r: u8) -> Option<Draft>
 fn compared_byte(width: Width, immediate: u8) -> Draft
     ensures { drafted result ≡ compared width immediate }
 {
-    let (prefix, offset) = base(width);
+    let prefix = base(width);
+    let offset = prefix.as_slice().len() as u8 + 3;
     Draft {
         prefix,
         opcode: Opcode::Three([0x48, 0x83, 0x3D]),
@@ -57,6 +58,7 @@ pub(crate) fn memory_operand(bits: Width, width: Width, kind: MemoryKind, low: u
     if bits != Width::Bits64 || width == Width::Bits16 {
         return None;
     }
+    // a match, since the kinds are a fixed list and each step takes other arguments
     match kind {
         MemoryKind::Load => moved_register(width, 0x8B, low),
         MemoryKind::Store => moved_register(width, 0x89, low),

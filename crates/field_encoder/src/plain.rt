@@ -2,7 +2,7 @@
 ghost use Rattle.std.specs.Prelude.{◌≡◌, ◌≤◌};
 ghost use Rattle.std.specs.Option.{option_map};
 ghost use Rattle.branches.specs.Drafted.{drafted};
-ghost use Rattle.field_encoder.specs.Shapes.{sole, stack, step, plain_shape};
+ghost use Rattle.field_shapes.specs.Shapes.{sole, stack, step, plain_shape};
 
 use bodies::PlainKind;
 use branches::{Draft, Opcode};
@@ -15,7 +15,7 @@ fn sole_byte(op: u8, low: u8) -> Option<Draft>
     if low != 0 {
         return None;
     }
-    Some(Opcode::One([op]).into())
+    Some(Draft::from(Opcode::One([op])))
 }
 
 // push or pop of a register; 8 to 15 stand behind 41, in 64-bit code alone.
@@ -24,8 +24,8 @@ fn stack_byte(bits: Width, op: u8, r: u8) -> Option<Draft>
     ensures { option_map drafted result ≡ stack bits op r }
 {
     match (bits, r) {
-        (_, 0..=7) => Some(Opcode::One([op + r]).into()),
-        (Width::Bits64, 8..=15) => Some(Opcode::Two([0x41, op + (r - 8)]).into()),
+        (_, 0..=7) => Some(Draft::from(Opcode::One([op + r]))),
+        (Width::Bits64, 8..=15) => Some(Draft::from(Opcode::Two([0x41, op + (r - 8)]))),
         _ => None,
     }
 }
@@ -40,13 +40,14 @@ fn step_bytes(bits: Width, r: u8) -> Option<Draft>
     let rex = if r < 8 { 0x48 } else { 0x4D };
     Some(Draft {
         constants: ConstantOffsets::none().with_displacement(3, 1),
-        ..Opcode::Four([rex, 0x8D, 0x40 + 9 * (r % 8), 0x01]).into()
+        ..Draft::from(Opcode::Four([rex, 0x8D, 0x40 + 9 * (r % 8), 0x01]))
     })
 }
 
 pub(crate) fn plain_bytes(bits: Width, kind: PlainKind, low: u8) -> Option<Draft>
     ensures { option_map drafted result ≡ plain_shape bits kind low }
 {
+    // a match, since the kinds are a fixed list and each step takes other arguments
     match kind {
         PlainKind::Nop => sole_byte(0x90, low),
         PlainKind::Ret => sole_byte(0xC3, low),

@@ -5,8 +5,8 @@ use Rattle.x86.specs.declared.instruction.Width.{Width}
 use Rattle.encoder.specs.Encodings.{Encoding, Reads}
 use Rattle.encoder.specs.Layouts.{size_of, code_of}
 use Rattle.encoder.proofs.ShapeLaws.{encoder_laws}
-use Rattle.field_encoder.specs.Shapes.{shape}
-use Rattle.field_encoder.specs.FieldShapes.{field_shapes}
+use Rattle.field_shapes.specs.Shapes.{shape}
+use Rattle.field_shapes.proofs.FieldShapes.{field_shapes}
 use Rattle.script.specs.declared.line.Line.{Line}
 use Rattle.listing.specs.declared.answer.Answer.{Answer}
 use Rattle.listing.specs.declared.listing.Listing.{Listing}

@@ -3,7 +3,7 @@ use Rattle.std.specs.Prelude.{◌≡◌, Some, None, Ok, Err, Option, Result}
 use Rattle.x86.specs.declared.instruction.Instruction.{Instruction as Ins}
 use Rattle.x86.specs.declared.instruction.Width.TheVariants.{Bits64}
 use Rattle.encoder.specs.Layouts.{size_of, code_of}
-use Rattle.field_encoder.specs.Shapes.{shape}
+use Rattle.field_shapes.specs.Shapes.{shape}
 use Rattle.field_encoder.specs.declared.FieldEncoder.{FieldEncoder}
 use Rattle.field_encoder.specs.declared.UnknownBitness.{UnknownBitness}
 use Rattle.field_encoder.specs.Makes.{made_by}

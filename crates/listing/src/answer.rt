@@ -26,11 +26,9 @@ impl Answer {
         ensures value { result ≡ answer_of (E.Measure.sized encoder.now) (E.Encoder.code encoder.now) ins.now address }
     {
         let mut row = [0; LONGEST];
-        let outcome = encoder.encode(ins, ins.target, address, &mut row).map(|(
-            constants,
-            size,
-        )| Encoded {
-            code: Code::first(size, row),
+        let written = encoder.encode(ins, ins.target, address, &mut row);
+        let outcome = written.map(|(constants, size)| Encoded {
+            code: Code::from_row(row, size),
             constants,
         });
         Answer { address, outcome }

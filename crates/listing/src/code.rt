@@ -2,11 +2,12 @@
 use encoder::{LONGEST, Row};
 use std::marker::Model;
 
-// At most 15 bytes, held by value; those behind them are 0.
+// At most 15 bytes, held by value: there is no heap, and the kit's vector of fixed capacity is not copied. The bytes behind
+// them are 0, so that a copy is known whole.
 #[derive(Clone, Copy)]
 pub struct Code {
     row: Row,
-    size: usize,
+    len: usize,
 }
 
 impl Model for Code {
@@ -16,7 +17,7 @@ impl Model for Code {
 
     ghost use Rattle.listing.specs.Codes.{IsPadded, padded, padded_ok};
 
-    ghost view = { λ c. take c.size c.row };
+    ghost view = { λ c. take c.len c.row };
 
     ghost invariant = { IsPadded };
 
@@ -29,27 +30,27 @@ impl Code {
     ghost use Rattle.std.specs.Prelude.{◌≡◌, length, take};
 
     // The first bytes of a row, all 15 where more are asked for.
-    pub fn first(size: usize, row: Row) -> Code
-        ensures { result ≡ take size row }
+    pub fn from_row(row: Row, len: usize) -> Code
+        ensures { result ≡ take len row }
     {
-        let size = size.min(LONGEST);
+        let len = len.min(LONGEST);
         let mut code = Code {
             row: [0; LONGEST],
-            size,
+            len,
         };
-        code.row[0..size].copy_from_slice(&row[0..size]);
+        code.row[0..len].copy_from_slice(&row[0..len]);
         code
     }
 
     pub fn as_slice(&self) -> &[u8]
         ensures { result.now ≡ self.now }
     {
-        &self.row[0..self.size]
+        &self.row[0..self.len]
     }
 
-    pub fn size(&self) -> usize
+    pub fn len(&self) -> usize
         ensures { result ≡ length self.now }
     {
-        self.size
+        self.len
     }
 }

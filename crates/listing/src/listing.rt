@@ -44,11 +44,11 @@ impl Listing {
         let Some(line) = read_line(text)? else {
             return Ok(None);
         };
+        // a match, since a line is one of three things and each does something else
         match line {
             Line::Bits(bitness) => {
-                self.encoder = FieldEncoder::new(bitness).map_err(|_| Problem::UnknownBitness(
-                    bitness,
-                ))?;
+                let made = FieldEncoder::new(bitness);
+                self.encoder = made.map_err(|_| Problem::UnknownBitness(bitness))?;
                 Ok(None)
             }
             Line::At(address) => {

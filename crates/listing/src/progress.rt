@@ -39,7 +39,7 @@ impl Progress {
     {
         match &answer.outcome {
             Ok(encoded) => {
-                self.address = self.address.wrapping_add(encoded.code.size() as u64);
+                self.address = self.address.wrapping_add(encoded.code.len() as u64);
                 self.encoded = self.encoded.wrapping_add(1);
             }
             Err(_) => self.refused = self.refused.wrapping_add(1),

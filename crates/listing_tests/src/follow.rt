@@ -4,7 +4,7 @@ use std::test::Fail;
 
 pub trait Follow: Copy {
     // What is answered to a line, or what is wrong with it, as a table shows it.
-    fn follow(
+    fn told(
         &mut self,
         rt: &(impl Abort + AllocGlobal),
         line: &str,
@@ -20,9 +20,9 @@ pub fn holds<F: Follow>(
     for row in table.lines() {
         if let Some((line, expected)) = row.split_once(" =>") {
             let mut copy = follower;
-            let (Ok(told) | Err(told)) = copy.follow(rt, line)?;
+            let (Ok(told) | Err(told)) = copy.told(rt, line)?;
             assert_eq!(rt; told.as_str(), expected, "{}", row);
-        } else if follower.follow(rt, row)?.is_err() {
+        } else if follower.told(rt, row)?.is_err() {
             return Err(Fail::new(row));
         }
     }

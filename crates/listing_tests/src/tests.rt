@@ -50,7 +50,7 @@ impl Place {
 }
 
 impl Follow for Place {
-    fn follow(
+    fn told(
         &mut self,
         rt: &(impl Abort + AllocGlobal),
         line: &str,

@@ -43,7 +43,7 @@ at 0xFFFFFFFFFFFFFFFE
 ";
 
 impl Follow for Listing {
-    fn follow(
+    fn told(
         &mut self,
         rt: &(impl Abort + AllocGlobal),
         line: &str,

@@ -8,15 +8,19 @@ use Rattle.x86.specs.declared.instruction.Width.{Width}
 use Rattle.x86.specs.declared.instruction.Width.TheVariants.{Bits64}
 use Rattle.x86.specs.declared.instruction.Instruction.{Instruction}
 
+-- a branch
 abbrev pub branching : Family → ℕ → Form → Width → ℕ → ℕ → Instruction
-branching kin c f w t b = record { family = kin; condition = c; form = f; width = w; body = b; old_address = 0; target = t }
+branching family condition form width target body = record { family = family; condition = condition; form = form; width = width; body = body; old_address = 0; target = target }
 
+-- a memory operand
 abbrev pub pointing : ℕ → Width → ℕ → Instruction
-pointing n w t = record { family = Memory; condition = 0; form = Near; width = w; body = n; old_address = 0; target = t }
+pointing body width target = record { family = Memory; condition = 0; form = Near; width = width; body = body; old_address = 0; target = target }
 
+-- a plain instruction
 abbrev pub standing : ℕ → Instruction
-standing n = record { family = Plain; condition = 0; form = Near; width = Bits64; body = n; old_address = 0; target = 0 }
+standing body = record { family = Plain; condition = 0; form = Near; width = Bits64; body = body; old_address = 0; target = 0 }
 
+-- an instruction that no encoder knows
 abbrev pub unknown : Instruction
 unknown = record { family = Other; condition = 0; form = Near; width = Bits64; body = 0; old_address = 0; target = 0 }
 

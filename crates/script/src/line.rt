@@ -3,7 +3,7 @@ ghost use Rattle.std.specs.Prelude.{◌≡◌};
 ghost use Rattle.std.specs.Result.{result_ok};
 ghost use Rattle.script.specs.Lines.{body_in, branch_line, plain_line, operand_line, stated_in, instruction_of, line_of};
 ghost use Rattle.text.specs.Phrases.{told};
-ghost use Rattle.text.specs.Words.{words_of, left};
+ghost use Rattle.text.specs.Words.{words_of};
 
 use crate::build;
 use crate::mnemonic::{Mnemonic, has_register};
@@ -13,7 +13,7 @@ use x86::{Family, Instruction};
 
 #[derive(Clone, Copy)]
 pub enum Line {
-    // the bitness of the code from here on, which its encoder may not know
+    // the bitness of the code from here on: a number, since there may be no encoder of it
     Bits(u32),
     // the address of what follows
     At(u64),
@@ -57,8 +57,9 @@ fn read_instruction(text: &str) -> Result<Instruction, Problem<'_>>
 
 // What the mnemonic and the words behind it state.
 fn stated<'a>(words: &mut Words<'a>, mnemonic: Mnemonic) -> Result<Instruction, Problem<'a>>
-    ensures value { told result (left words.new) ≡ stated_in mnemonic (left words.old) }
+    ensures value { told result words.new ≡ stated_in mnemonic words.old }
 {
+    // a match, since the mnemonics are a fixed list and each case carries what its step needs
     match mnemonic {
         Mnemonic::Jcc(condition) => branch(words, Family::Jcc, condition),
         Mnemonic::Jmp => branch(words, Family::Jmp, 0),
@@ -82,7 +83,7 @@ fn branch<'a>(
     family: Family,
     condition: u8,
 ) -> Result<Instruction, Problem<'a>>
-    ensures value { told result (left words.new) ≡ branch_line family condition (left words.old) }
+    ensures value { told result words.new ≡ branch_line family condition words.old }
 {
     Ok(Instruction {
         family,
@@ -96,19 +97,17 @@ fn branch<'a>(
 }
 
 fn body<'a>(words: &mut Words<'a>) -> Result<u32, Problem<'a>>
-    ensures value { told result (left words.new) ≡ body_in (left words.old) }
+    ensures value { told result words.new ≡ body_in words.old }
 {
-    let Some(word) = words.next() else {
-        return Ok(0);
-    };
-    match word {
-        "body" => words.read(),
-        _ => Err(Problem::Unexpected(word)),
+    match words.next() {
+        None => Ok(0),
+        Some("body") => words.read(),
+        Some(word) => Err(Problem::Unexpected(word)),
     }
 }
 
 fn plain<'a>(words: &mut Words<'a>, kind: PlainKind) -> Result<Instruction, Problem<'a>>
-    ensures value { told result (left words.new) ≡ plain_line kind (left words.old) }
+    ensures value { told result words.new ≡ plain_line kind words.old }
 {
     if !has_register(kind) {
         return Ok(build::plain(kind.body(0)));
@@ -118,7 +117,7 @@ fn plain<'a>(words: &mut Words<'a>, kind: PlainKind) -> Result<Instruction, Prob
 }
 
 fn operand<'a>(words: &mut Words<'a>, body: u32) -> Result<Instruction, Problem<'a>>
-    ensures value { told result (left words.new) ≡ operand_line body (left words.old) }
+    ensures value { told result words.new ≡ operand_line body words.old }
 {
     Ok(Instruction {
         family: Family::Memory,

@@ -7,6 +7,7 @@ use text::{Problem, Wanted, Word};
 
 #[derive(Clone, Copy)]
 pub enum Mnemonic {
+    // the condition's number, as an instruction has it
     Jcc(u8),
     Jmp,
     Call,

@@ -7,8 +7,7 @@ use Rattle.std.specs.Str.{NonePass, EmptyOrStartsWithPassing, chars}
 use Rattle.std.specs.Str.Iter.{split_whitespace_rest as rest_of, split_whitespace_steps}
 use Rattle.std.specs.declared.str.SplitWhitespace.{SplitWhitespace}
 use Rattle.std.specs.Iterator.{MakesProgress, at_most}
-use Rattle.text.specs.declared.words.Words.{Words}
-use Rattle.text.specs.Words.{words_after, words_of, left, Taken}
+use Rattle.text.specs.Words.{words_after, words_of, Taken}
 use Rattle.text.proofs.Characters.{first_char}
 
 no_words : words_of [] ≡ []
@@ -42,6 +41,6 @@ takes s t (Some word) (gap, cut, some, (cs, spelt, blank), (ds, spells, solid), 
     rw (cut, ← spelt, skip_gap cs (word.now ++ rest_of t) blank, ← spells) (first_word ds (rest_of t) after (rw spells some) solid opens)
 
 -- one word fewer is left
-pub progress : (s t : Words) (r : Option (Bor (List ℕ))) → Taken (left s) r (left t) → MakesProgress (λ _. Unit {0}) (λ words. at_most (length (left words))) s r t
+pub progress : (s t : List (List ℕ)) (r : Option (Bor (List ℕ))) → Taken s r t → MakesProgress (λ _. Unit {0}) (λ words. at_most (length words)) s r t
 progress s t None taken = record { on = λ _. tt; keeps = tt; rests = λ finite. tt }
 progress s t (Some word) taken = record { on = λ _. (tt, tt, rw taken (omega arith)); keeps = tt; rests = λ _. tt }

@@ -1,10 +1,8 @@
 -- The words of a text: its characters, cut at white space.
 use Rattle.std.specs.Prelude.{◌≡◌, ℕ, cond, List, [], ◌∷◌, ◌++◌, Some, None, Option, encode_utf8_all}
 use Rattle.std.specs.Borrow.{Bor}
-use Rattle.std.specs.Str.Iter.{split_whitespace_rest}
 use Rattle.std.specs.Char.{is_whitespace}
 use Rattle.std.specs.Str.{chars}
-use Rattle.text.specs.declared.words.Words.{Words}
 
 -- a word that has begun, unless it is empty, before those that follow
 abbrev pub ended : List ℕ → List (List ℕ) → List (List ℕ)
@@ -18,10 +16,6 @@ words_after word (c ∷ cs) = cond (is_whitespace c) (ended word (words_after []
 
 unfoldable pub words_of : List ℕ → List (List ℕ)
 words_of text = words_after [] (chars text)
-
--- the words that are still to be read
-abbrev pub left : Words → List (List ℕ)
-left words = words_of (split_whitespace_rest words.rest)
 
 -- the next word, if there is one, is taken from the words
 abbrev pub Taken : List (List ℕ) → Option (Bor (List ℕ)) → List (List ℕ) → Type 0

@@ -4,6 +4,7 @@ ghost use Rattle.std.specs.Result.{result_ok};
 ghost use Rattle.text.specs.Numbers.{number_of, number_up_to, numeral_of};
 
 use crate::problem::Problem;
+use crate::word::Word;
 
 // Decimal digits, or hexadecimal ones of either case after `0x`; below 2^64.
 pub fn number(word: &str) -> Option<u64>
@@ -20,7 +21,7 @@ pub fn number_up_to(word: &str, most: u64) -> Result<u64, Problem<'_>>
     ensures value { result_ok result ≡ number_up_to most word.now }
     ensures bound { IfOk result (λ n. n ≤ most) }
 {
-    let value = number(word).ok_or(Problem::NotNumber(word))?;
+    let value = u64::read(word)?;
     if value > most {
         return Err(Problem::TooLarge { value, most });
     }

@@ -1,6 +1,10 @@
 // What can be wrong with a line.
+ghost use Rattle.std.specs.Prelude.{◌≡◌};
+ghost use Rattle.text.specs.declared.problem.Problem.TheVariants.{UnknownWidth};
+
 use std::fmt;
 use thiserror::Error;
+use x86::UnknownWidth;
 
 // What a line lacks where it ends.
 #[derive(Clone, Copy, Debug)]
@@ -39,5 +43,13 @@ impl fmt::Display for Wanted {
             Wanted::Mnemonic => "mnemonic",
             Wanted::Form => "form",
         })
+    }
+}
+
+impl From<UnknownWidth> for Problem<'_> {
+    ghost from_gives = { λ width problem. problem ≡ UnknownWidth width.0 };
+
+    fn from(UnknownWidth(bits): UnknownWidth) -> Self {
+        Problem::UnknownWidth(bits)
     }
 }

@@ -16,7 +16,7 @@ impl fmt::Display for Address {
     }
 }
 
-impl<'a> fmt::Display for Bytes<'a> {
+impl fmt::Display for Bytes<'_> {
     fn fmt<W: fmt::Write>(&self, f: &mut fmt::Formatter<W>) -> fmt::Result {
         for byte in self.0 {
             write!(f, " {byte:02X}")?;

@@ -6,10 +6,10 @@ ghost use Rattle.text.specs.Tables.{form_of, width_named};
 
 use crate::number::{number, number_up_to};
 use crate::problem::{Problem, Wanted};
-use x86::{Form, UnknownWidth, Width};
+use x86::{Form, Width};
 
 pub trait Word: Sized {
-    // what a word means, none where it means no such thing
+    // what a word means, none where it means nothing of this type
     ghost meaning: { List ℕ → Option Self };
 
     // what a line lacks that ends before the word
@@ -29,7 +29,8 @@ impl Word for u64 {
     }
 }
 
-// Numbers of fewer bits. Each has an impl of its own, since one for all number types would overlap those below.
+// Numbers of fewer bits: `number_up_to` refuses what the cast would cut. Each has an impl of its own, since one for all
+// number types would overlap those below.
 impl Word for u32 {
     ghost meaning = { number_up_to 0xFFFF_FFFF };
 
@@ -70,7 +71,6 @@ impl Word for Width {
     const WANTED: Wanted = Wanted::Number;
 
     fn read(word: &str) -> Result<Width, Problem<'_>> {
-        let bits = u64::read(word)?;
-        Width::try_from(bits).map_err(|UnknownWidth(bits)| Problem::UnknownWidth(bits))
+        Ok(Width::try_from(u64::read(word)?)?)
     }
 }

@@ -1,12 +1,14 @@
 // The words of a line, read one after another.
-ghost use Rattle.std.specs.Prelude.{◌≡◌, length};
+ghost use Rattle.std.specs.Prelude.{◌≡◌, ℕ, List, length};
 ghost use Rattle.std.specs.Iterator.{at_most};
 ghost use Rattle.std.specs.Result.{result_ok};
+ghost use Rattle.std.specs.Str.Iter.{split_whitespace_rest};
 ghost use Rattle.text.specs.Phrases.{Worded, told, alone, meant};
-ghost use Rattle.text.specs.Words.{words_of, left, Taken};
+ghost use Rattle.text.specs.Words.{words_of, Taken};
 
 use crate::problem::{Problem, Wanted};
 use crate::word::Word;
+use std::marker::Model;
 use std::str::SplitWhitespace;
 
 #[derive(Drop)]
@@ -14,9 +16,16 @@ pub struct Words<'a> {
     rest: SplitWhitespace<'a>,
 }
 
+// In contracts these are the words that are still to be read.
+impl<'a> Model for Words<'a> {
+    ghost Value = { List (List ℕ) };
+
+    ghost view = { λ words. words_of (split_whitespace_rest words.rest) };
+}
+
 impl<'a> Words<'a> {
     pub fn new(line: &'a str) -> Words<'a>
-        ensures value { left result ≡ words_of line.now }
+        ensures value { result ≡ words_of line.now }
     {
         Words {
             rest: line.split_whitespace(),
@@ -24,21 +33,21 @@ impl<'a> Words<'a> {
     }
 
     pub fn word(&mut self, wanted: Wanted) -> Result<&'a str, Problem<'a>>
-        ensures value { Worded (left self.old) result (left self.new) }
+        ensures value { Worded self.old result self.new }
     {
         self.next().ok_or(Problem::Missing(wanted))
     }
 
-    // The next word, by what it means.
+    // The next word, by what it means: what is answered, with the words that are left (`told`).
     pub fn read<T: Word>(&mut self) -> Result<T, Problem<'a>>
-        ensures value { told result (left self.new) ≡ meant T.meaning (left self.old) }
+        ensures value { told result self.new ≡ meant T.meaning self.old }
     {
         T::read(self.word(T::WANTED)?)
     }
 
     // Refuses a word that is left over.
     pub fn end(&mut self) -> Result<(), Problem<'a>>
-        ensures value { result_ok result ≡ alone tt (left self.old) }
+        ensures value { result_ok result ≡ alone tt self.old }
     {
         match self.next() {
             None => Ok(()),
@@ -50,9 +59,9 @@ impl<'a> Words<'a> {
 impl<'a> Iterator for Words<'a> {
     type Item = &'a str;
 
-    ghost next_gives = { λ words word rest. Taken (left words) word (left rest) };
+    ghost next_gives = { Taken };
 
-    ghost remaining = { λ words. at_most (length (left words)) };
+    ghost remaining = { λ words. at_most (length words) };
 
     fn next(&mut self) -> Option<&'a str> {
         self.rest.next()

@@ -2,8 +2,8 @@
 -- A reading is of one instruction that is all of the bytes, in a mode, at an address. Bytes that we never write need not be
 -- read here: they have no reading.
 use Rattle.std.specs.Prelude.{ℕ, zero, suc, ◌+◌, ◌*◌, ◌/◌, ◌%◌, ◌^◌, Bool, true, false, cond, ◌&&◌, ◌||◌, List, [], ◌∷◌, length, take, drop, pos, ◌+ℤ◌, Some, None, Option, ◌==◌, nat_le}
-use Rattle.std.specs.Int.{Width as Span, w8, w16, w32, w64}
-use mir.Val.{bits, to_z}
+use Rattle.std.specs.Int.{Width as Span, w8, w16, w32, w64, cast_signed}
+use mir.Val.{bits}
 use Rattle.x86.specs.declared.instruction.Width.{Width}
 use Rattle.x86.specs.declared.instruction.Width.TheVariants.{Bits16, Bits32, Bits64}
 use Rattle.x86.specs.declared.constant_offsets.ConstantOffsets.{ConstantOffsets}
@@ -17,7 +17,7 @@ pub data Transfer : Type 0 where
 
 -- next, the address behind the last byte, plus the signed displacement that a field of f bits holds, modulo 2 ^ bits s
 abbrev pub landing : Span → ℕ → Span → List ℕ → ℕ
-landing s next f bs = residue s (pos next +ℤ to_z f (little bs))
+landing s next f bs = residue s (pos next +ℤ cast_signed f (little bs))
 
 -- rel8, rel16, rel32: a field of f bits, and nothing behind it
 abbrev pub relative : Width → ℕ → (ℕ → Transfer) → Span → List ℕ → Option Transfer

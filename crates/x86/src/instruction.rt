@@ -1,6 +1,8 @@
 // One instruction of the code that is moved, as its reader describes it.
 ghost use Rattle.x86.specs.Bitness.{Denotes};
 
+use thiserror::Error;
+
 #[derive(Clone, Copy, PartialEq, Eq, Debug)]
 pub enum Family {
     // a jump on a condition
@@ -31,7 +33,8 @@ pub enum Width {
 }
 
 // A number of bits that no code and no instruction has.
-#[derive(Clone, Copy, PartialEq, Eq, Debug)]
+#[derive(Clone, Copy, PartialEq, Eq, Debug, Error)]
+#[error("{0} is none of 16, 32 and 64")]
 pub struct UnknownWidth(pub u64);
 
 impl TryFrom<u64> for Width {

@@ -15,11 +15,11 @@ use Rattle.encoder.proofs.Options.{if_tested, if_always, Both, both_if, both_sam
 use Rattle.encoder.proofs.Readings.{ShowsOperand, operand_reads}
 use Rattle.encoder.proofs.ShapeLaws.{ShapeLaws}
 use Rattle.bodies.specs.declared.MemoryKind.{MemoryKind}
-use Rattle.bodies.specs.declared.MemoryKind.TheVariants.{Compare}
+use Rattle.bodies.specs.declared.MemoryKind.TheVariants.{Load, Store, Address, Compare}
 use Rattle.bodies.specs.Kinds.{plain_kind, memory_kind}
 use Rattle.branches.specs.Shapes.{branch_shape}
 use Rattle.branches.proofs.BranchShapes.{Real, long, Back, branch_real, branch_shorter, branch_back}
-use Rattle.field_encoder.specs.Shapes.{memory_by, of_plain, of_memory, shape_by, shape}
+use Rattle.field_shapes.specs.Shapes.{moved, compared, memory_by, of_plain, of_memory, shape_by, shape}
 
 -- what holds of the shapes of each kind of memory instruction holds of those of a body
 memory_if : (P : Shape → Type 0) (mode w : Width) (kind : Option MemoryKind) (low : ℕ)
@@ -27,9 +27,11 @@ memory_if : (P : Shape → Type 0) (mode w : Width) (kind : Option MemoryKind) (
 memory_if P mode w None low h = tt
 memory_if P mode w (Some k) low h = if_tested P (memory_width mode w) (memory_by w k low) (λ e. h e k)
 
+memory_real : (mode w : Width) (kind : Option MemoryKind) (low : ℕ) → IfSome (of_memory mode w kind low) (λ _. memory_width mode w ≡ true)
+memory_real mode w kind low = memory_if _ mode w kind low (λ e k. if_always _ (memory_by w k low) (λ _. e))
+
 real : (mode : Width) (family : Family) (c : ℕ) (f : Form) (w : Width) (body : ℕ) → IfSome (shape_by mode family c f w body) (Real mode family c f w)
-real mode Memory c f w body =
-    memory_if _ mode w (memory_kind (body / 256)) (body % 256) (λ e k. if_always _ (memory_by w k (body % 256)) (λ _. e))
+real mode Memory c f w body = memory_real mode w (memory_kind (body / 256)) (body % 256)
 real mode Plain c f w body = if_always _ (of_plain mode (plain_kind (body / 256)) (body % 256)) (λ _. refl)
 real mode Other c f w body = tt
 real mode family c f w body = if_tested _ (body == 0) (branch_shape [] mode family c f w) (λ _. branch_real [] mode family c f w)
@@ -48,33 +50,53 @@ abbrev Narrower : Shape → Shape → Type 0
 Narrower s s' = length s.head + 4 + length s.tail ≤ length s'.head + 4 + length s'.tail
 
 -- 67 makes a memory operand a byte longer
-kind_narrower : (kind : MemoryKind) (low : ℕ) → Both Narrower (memory_by Bits64 kind low) (memory_by Bits32 kind low)
-kind_narrower Compare low = lit≤ tt
-kind_narrower kind low = both_if Narrower (nat_lt low 16) (nat_lt low 16) _ _ (lit≤ tt)
+moved_narrower : (op r : ℕ) → Both Narrower (moved Bits64 op r) (moved Bits32 op r)
+moved_narrower op r = both_if Narrower (nat_lt r 16) (nat_lt r 16) _ _ (lit≤ tt)
 
-narrower : (mode : Width) (kind : Option MemoryKind) (low : ℕ) → Both Narrower (of_memory mode Bits64 kind low) (of_memory mode Bits32 kind low)
-narrower mode None low = tt
-narrower mode (Some kind) low =
+kind_narrower : (kind : MemoryKind) (low : ℕ) → Both Narrower (memory_by Bits64 kind low) (memory_by Bits32 kind low)
+kind_narrower Load low = moved_narrower 0x8B low
+kind_narrower Store low = moved_narrower 0x89 low
+kind_narrower Address low = moved_narrower 0x8D low
+kind_narrower Compare low = lit≤ tt
+
+memory_narrower : (mode : Width) (kind : Option MemoryKind) (low : ℕ) → Both Narrower (of_memory mode Bits64 kind low) (of_memory mode Bits32 kind low)
+memory_narrower mode None low = tt
+memory_narrower mode (Some kind) low =
     both_if Narrower (memory_width mode Bits64) (memory_width mode Bits32) (memory_by Bits64 kind low) (memory_by Bits32 kind low) (kind_narrower kind low)
 
 rex_wide : (b : Bool) (xs : List ℕ) → narrowed (cond b 0x48 0x4C ∷ xs) ≡ false
 rex_wide true xs = refl
 rex_wide false xs = refl
 
--- an operand is relative to RIP or EIP
+-- a memory operand is relative to RIP or EIP
+either_base : (P : Width → Type 0) → P Bits64 → P Bits32 → (mode w : Width) → memory_width mode w ≡ true → P w
+either_base P rip eip mode Bits64 h = rip
+either_base P rip eip mode Bits32 h = eip
+either_base P rip eip Bits64 Bits16 h = cc
+either_base P rip eip mode Bits16 h = cc
+
+moved_shows : (mode w : Width) (op r : ℕ) → memory_width mode w ≡ true → IfSome (moved w op r) (ShowsOperand w)
+moved_shows mode w op r h =
+    either_base (λ w. IfSome (moved w op r) (ShowsOperand w))
+    (if_tested _ (nat_lt r 16) _ (λ _. record { size = refl; offset = refl; base = λ xs. rw rex_wide }))
+    (if_tested _ (nat_lt r 16) _ (λ _. record { size = refl; offset = refl; base = λ xs. refl }))
+    mode w h
+
 kind_shows : (mode w : Width) (kind : MemoryKind) (low : ℕ) → memory_width mode w ≡ true → IfSome (memory_by w kind low) (ShowsOperand w)
-kind_shows mode Bits64 Compare low h = record { size = refl; offset = refl; base = λ xs. refl }
-kind_shows mode Bits32 Compare low h = record { size = refl; offset = refl; base = λ xs. refl }
-kind_shows mode Bits64 kind low h =
-    if_tested _ (nat_lt low 16) _ (λ _. record { size = refl; offset = refl; base = λ xs. rw rex_wide })
-kind_shows mode Bits32 kind low h = if_tested _ (nat_lt low 16) _ (λ _. record { size = refl; offset = refl; base = λ xs. refl })
-kind_shows Bits64 Bits16 kind low h = cc
-kind_shows mode Bits16 kind low h = cc
+kind_shows mode w Load low h = moved_shows mode w 0x8B low h
+kind_shows mode w Store low h = moved_shows mode w 0x89 low h
+kind_shows mode w Address low h = moved_shows mode w 0x8D low h
+kind_shows mode w Compare low h =
+    either_base (λ w. ShowsOperand w (compared w low))
+    (record { size = refl; offset = refl; base = λ xs. refl }) (record { size = refl; offset = refl; base = λ xs. refl }) mode w h
+
+memory_back : (mode : Width) (c : ℕ) (f : Form) (w : Width) (kind : Option MemoryKind) (low : ℕ) → IfSome (of_memory mode w kind low) (Back mode Memory c f w)
+memory_back mode c f w kind low =
+    memory_if (Back mode Memory c f w) mode w kind low
+    (λ e k. IfSome_then (memory_by w k low) (kind_shows mode w k low e) (λ s shows t a near. operand_reads w s t a shows near))
 
 back : (mode : Width) (family : Family) (c : ℕ) (f : Form) (w : Width) (body : ℕ) → IfSome (shape_by mode family c f w body) (Back mode family c f w)
-back mode Memory c f w body =
-    memory_if (Back mode Memory c f w) mode w (memory_kind (body / 256)) (body % 256)
-    (λ e k. IfSome_then (memory_by w k (body % 256)) (kind_shows mode w k (body % 256) e) (λ s shows t a near. operand_reads w s t a shows near))
+back mode Memory c f w body = memory_back mode c f w (memory_kind (body / 256)) (body % 256)
 back mode Plain c f w body = if_always _ (of_plain mode (plain_kind (body / 256)) (body % 256)) (λ s t a near. tt)
 back mode Other c f w body = tt
 back mode family c f w body = if_tested _ (body == 0) (branch_shape [] mode family c f w) (λ _. branch_back [] mode family c f w tt)
@@ -84,7 +106,7 @@ field_shapes mode =
     record {
       real = λ i. real mode i.family i.condition i.form i.width i.body;
       shorter = λ i. shorter mode i.family i.condition i.width i.body;
-      narrower = λ i e. rw e (narrower mode (memory_kind (i.body / 256)) (i.body % 256));
+      narrower = λ i e. rw e (memory_narrower mode (memory_kind (i.body / 256)) (i.body % 256));
       plain = λ i f w e. rw e;
       memory = λ i f e. rw e;
       reads = λ i. back mode i.family i.condition i.form i.width i.body;
