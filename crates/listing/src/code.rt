@@ -2,8 +2,8 @@
 use encoder::{LONGEST, Row};
 use std::marker::Model;
 
-// At most 15 bytes, held by value: there is no heap, and the kit's vector of fixed capacity is not copied. The bytes behind
-// them are 0, so that a copy is known whole.
+// At most 15 bytes, held by value and without a heap; the kit's vector of fixed capacity could not be copied. The bytes
+// behind them are 0, so that a copy is known whole.
 #[derive(Clone, Copy)]
 pub struct Code {
     row: Row,
