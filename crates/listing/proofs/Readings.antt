@@ -1,5 +1,5 @@
 -- What a listing answers reads back.
-use Rattle.std.proofs.Common.{◌≡◌, ℕ, Some, None, Option, refl, subst}
+use Rattle.std.proofs.Common.{◌≡◌, ℕ, Some, None, Option, refl, sym, subst}
 use Rattle.x86.specs.declared.instruction.Instruction.{Instruction as Ins}
 use Rattle.x86.specs.declared.instruction.Width.{Width}
 use Rattle.encoder.specs.Encodings.{Encoding, Reads}
@@ -12,10 +12,12 @@ use Rattle.listing.specs.declared.answer.Answer.{Answer}
 use Rattle.listing.specs.declared.listing.Listing.{Listing}
 use Rattle.listing.specs.Answers.{answer_at, ReadsAs}
 use Rattle.listing.specs.Steps.{answer_to, Stepped, Understood}
+use Rattle.listing.proofs.Codes.{code_bytes-padded}
 
 answer_reads : (mode : Width) (i : Ins) (a : ℕ) (size : Option ℕ) (code : Option Encoding)
     → ((x : Encoding) → code ≡ Some x → Reads mode i i.target a x) → ReadsAs mode i (answer_at a size code)
-answer_reads mode i a size (Some x) h = h x refl
+answer_reads mode i a size (Some x) h =
+    subst (λ bs. Reads mode i i.target a (record { bytes = bs; constants = x.constants })) (sym (code_bytes-padded x.bytes)) (h x refl)
 answer_reads mode i a (Some n) None h = tt
 answer_reads mode i a None None h = tt
 

@@ -5,12 +5,13 @@ use Rattle.x86.specs.declared.instruction.Width.{Width}
 use Rattle.encoder.specs.Encodings.{Encoding, Reads}
 use Rattle.encoder.specs.declared.Refusal.{Refusal}
 use Rattle.encoder.specs.declared.Refusal.TheVariants.{NoSize, OutOfReach}
+use Rattle.listing.specs.Codes.{code_bytes, padded}
 use Rattle.listing.specs.declared.answer.Answer.{Answer}
 use Rattle.listing.specs.declared.answer.Encoded.{Encoded}
 
 -- what an encoder writes for an instruction, or why it writes nothing, by the size of the instruction
 abbrev pub outcome_of : Option ℕ → Option Encoding → Result Encoded Refusal
-outcome_of size (Some x) = Ok (record { code = x.bytes; constants = x.constants })
+outcome_of size (Some x) = Ok (record { code = padded x.bytes; constants = x.constants })
 outcome_of (Some n) None = Err OutOfReach
 outcome_of None None = Err NoSize
 
@@ -24,4 +25,4 @@ answer_of sized code i a = answer_at a (sized i) (code i i.target a)
 
 -- read by the manual where it stands, an encoding is the instruction that was asked for
 abbrev pub ReadsAs : Width → Instruction → Answer → Type 0
-ReadsAs mode i answer = IfOk answer.outcome (λ e. Reads mode i i.target answer.address (record { bytes = e.code; constants = e.constants }))
+ReadsAs mode i answer = IfOk answer.outcome (λ e. Reads mode i i.target answer.address (record { bytes = code_bytes e.code; constants = e.constants }))

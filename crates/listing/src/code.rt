@@ -1,37 +1,23 @@
 // The bytes of one encoding.
+ghost use Rattle.std.specs.Prelude.{◌≡◌, ◌≤◌, length, take};
+ghost use Rattle.listing.specs.Codes.{code_bytes, padded};
+
 use encoder::{LONGEST, Row};
-use std::marker::Model;
 
 // At most 15 bytes, held by value and without a heap; the kit's vector of fixed capacity could not be copied. The bytes
-// behind them are 0, so that a copy is known whole.
+// behind them are 0, so that a copy is known whole. There is no `impl Model`, since a struct around one is not copied
+// when it is passed by value and used again: contracts read a code by `code_bytes`.
 #[derive(Clone, Copy)]
 pub struct Code {
     row: Row,
     len: usize,
 }
 
-impl Model for Code {
-    ghost use Rattle.std.specs.Prelude.{ℕ, List, take};
-
-    ghost Value = { List ℕ };
-
-    ghost use Rattle.listing.specs.Codes.{IsPadded, padded, padded_ok};
-
-    ghost view = { λ c. take c.len c.row };
-
-    ghost invariant = { IsPadded };
-
-    ghost inverse = { padded };
-
-    ghost inverse_ok = { padded_ok };
-}
-
 impl Code {
-    ghost use Rattle.std.specs.Prelude.{◌≡◌, length, take};
-
     // The first bytes of a row, all 15 where more are asked for.
     pub fn from_row(row: Row, len: usize) -> Code
-        ensures { result ≡ take len row }
+        ensures value { code_bytes result ≡ take len row }
+        ensures whole { result ≡ padded (take len row) }
     {
         let len = len.min(LONGEST);
         let mut code = Code {
@@ -42,15 +28,18 @@ impl Code {
         code
     }
 
+    // `len` is at most 15 in every code, but no type says so: it is cut again, so that nothing is asked of callers.
     pub fn as_slice(&self) -> &[u8]
-        ensures { result.now ≡ self.now }
+        ensures value { result.now ≡ code_bytes self.now }
+        ensures fits { length result.now ≤ 15 }
     {
-        &self.row[0..self.len]
+        &self.row[0..self.len.min(LONGEST)]
     }
 
     pub fn len(&self) -> usize
-        ensures { result ≡ length self.now }
+        ensures value { result ≡ length (code_bytes self.now) }
+        ensures fits { result ≤ 15 }
     {
-        self.len
+        self.as_slice().len()
     }
 }

@@ -4,7 +4,7 @@ use crate::tables;
 use encoder::{Encoder, LONGEST, Measure, Refusal};
 use field_encoder::FieldEncoder;
 use script::{Line, read_line};
-use std::process::Abort;
+use std::alloc::Global;
 use std::test::Fail;
 use text::show::Bytes;
 use x86::Instruction;
@@ -29,47 +29,50 @@ impl Place {
 
     // What the encoder answers, as a table has it. The rest of the row stays, all of it where it refuses, and the size
     // is as told before.
-    fn answer(&self, rt: &(impl Abort + AllocGlobal), ins: &Instruction) -> Result<String, Fail> {
+    fn answer(&self, heap: Global, ins: &Instruction) -> Result<String, Fail> {
         let mut row = [MARK; LONGEST];
         let size = self.encoder.size(ins);
         match self.encoder.encode(ins, ins.target, self.address, &mut row) {
             Ok((constants, written)) => {
-                assert_eq!(rt; size, Some(written));
-                assert!(rt; written <= LONGEST);
-                assert_eq!(rt; &row[written..], &[MARK; LONGEST][written..]);
+                if size != Some(written) || written > LONGEST {
+                    return Err(Fail::new("another size than told"));
+                }
+                if row[written..] != [MARK; LONGEST][written..] {
+                    return Err(Fail::new("the rest of the row is written"));
+                }
                 let bytes = Bytes(&row[0..written]);
-                Ok(format!(in rt.alloc(); "{bytes} constants {constants}")?)
+                Ok(format!(in heap; "{bytes} constants {constants}")?)
             }
             Err(why) => {
-                assert_eq!(rt; row, [MARK; LONGEST]);
-                assert_eq!(rt; size.is_none(), why == Refusal::NoSize);
-                Ok(format!(in rt.alloc(); " {why}")?)
+                if row != [MARK; LONGEST] {
+                    return Err(Fail::new("a refusal writes"));
+                }
+                if size.is_none() != (why == Refusal::NoSize) {
+                    return Err(Fail::new("a refusal for another reason"));
+                }
+                Ok(format!(in heap; " {why}")?)
             }
         }
     }
 }
 
 impl Follow for Place {
-    fn told(
-        &mut self,
-        rt: &(impl Abort + AllocGlobal),
-        line: &str,
-    ) -> Result<Result<String, String>, Fail> {
+    fn told(&mut self, heap: Global, line: &str) -> Result<Result<String, String>, Fail> {
         let told = match read_line(line) {
-            Ok(None) => String::from_str(rt.alloc(), " nothing")?,
+            Ok(None) => String::from_str(heap, " nothing")?,
             Ok(Some(Line::Bits(bits))) => match FieldEncoder::new(bits) {
                 Ok(encoder) => {
                     self.encoder = encoder;
-                    format!(in rt.alloc(); " bits {bits}")?
+                    format!(in heap; " bits {bits}")?
                 }
-                Err(_) => return Ok(Err(String::from_str(rt.alloc(), " no such bitness")?)),
+                Err(_) => return Ok(Err(String::from_str(heap, " no such bitness")?)),
             },
             Ok(Some(Line::At(address))) => {
                 self.address = address;
-                format!(in rt.alloc(); " at {address}")?
+                format!(in heap; " at {address}")?
             }
-            Ok(Some(Line::Instruction(ins))) => self.answer(rt, &ins)?,
-            Err(problem) => return Ok(Err(format!(in rt.alloc(); " {problem}")?)),
+            Ok(Some(Line::Instruction(ins))) => self.answer(heap, &ins)?,
+            Err(problem) => return Ok(Err(format!(in heap; " {problem}")?)),
         };
         Ok(Ok(told))
     }
@@ -105,7 +108,7 @@ fn conditions_past_15(rt: HostRuntime) -> Result<(), Fail> {
     };
     // 0x80 and 0x90 add up to 256 with the first opcodes
     for condition in [16, 0x80, 0x90, 0xFF] {
-        let answer = place.answer(&rt, &Instruction { condition, ..jump })?;
+        let answer = place.answer(rt.alloc(), &Instruction { condition, ..jump })?;
         assert_eq!(rt; answer.as_str(), " no size");
     }
     Ok(())

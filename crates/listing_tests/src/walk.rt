@@ -1,7 +1,7 @@
 // A listing, followed line by line, held to a table of answers.
 use crate::follow::{Follow, holds};
 use listing::Listing;
-use std::process::Abort;
+use std::alloc::Global;
 use std::test::Fail;
 use text::show::Address;
 
@@ -43,15 +43,11 @@ at 0xFFFFFFFFFFFFFFFE
 ";
 
 impl Follow for Listing {
-    fn told(
-        &mut self,
-        rt: &(impl Abort + AllocGlobal),
-        line: &str,
-    ) -> Result<Result<String, String>, Fail> {
+    fn told(&mut self, heap: Global, line: &str) -> Result<Result<String, String>, Fail> {
         Ok(match self.follow(line) {
-            Ok(Some(answer)) => Ok(format!(in rt.alloc(); " {answer}")?),
-            Ok(None) => Ok(format!(in rt.alloc(); " at {}", Address(self.progress.address))?),
-            Err(problem) => Err(format!(in rt.alloc(); " {problem}")?),
+            Ok(Some(answer)) => Ok(format!(in heap; " {answer}")?),
+            Ok(None) => Ok(format!(in heap; " at {}", Address(self.progress.address))?),
+            Err(problem) => Err(format!(in heap; " {problem}")?),
         })
     }
 }

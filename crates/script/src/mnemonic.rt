@@ -58,16 +58,17 @@ pub fn has_register(kind: PlainKind) -> bool
 
 // The names of the conditions, in the order of the processor's manual.
 const CONDITIONS: [&str; 16] = [
-    "jo", "jno", "jb", "jae", "je", "jne", "jbe", "ja", "js", "jns", "jp", "jnp", "jl", "jge",
-    "jle", "jg",
+    "o", "no", "b", "ae", "e", "ne", "be", "a", "s", "ns", "p", "np", "l", "ge", "le", "g",
 ];
 
-// A condition is the place of its name in that order.
+// A jump on a condition is called by a j and the condition's name, whose place in that order is the condition. A word
+// without the j is compared with no name.
 pub fn condition(word: &str) -> Option<u8>
     ensures value { result ≡ condition_of word.now }
 {
+    let name = word.strip_prefix("j")?;
     CONDITIONS
         .iter()
-        .position(|&name| name == word)
+        .position(|&known| known == name)
         .map(|place| place as u8)
 }

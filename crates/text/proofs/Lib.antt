@@ -1,3 +1,4 @@
+pub mod Unlisted
 mod Numerals
 mod Characters
 mod Splits
