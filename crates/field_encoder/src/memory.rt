@@ -43,11 +43,11 @@ fn compared_byte(width: Width, immediate: u8) -> Draft
     let offset = prefix.as_slice().len() as u8 + 3;
     Draft {
         prefix,
-        opcode: Opcode::Three([0x48, 0x83, 0x3D]),
         last: Some(immediate),
         constants: ConstantOffsets::none()
             .with_displacement(offset, 4)
             .with_immediate(offset + 4, 1),
+        ..Draft::from(Opcode::Three([0x48, 0x83, 0x3D]))
     }
 }
 
