@@ -5,8 +5,8 @@ ghost use Rattle.listing.specs.Codes.{code_bytes, padded};
 use encoder::{LONGEST, Row};
 
 // At most 15 bytes, held by value and without a heap; the kit's vector of fixed capacity could not be copied. The bytes
-// behind them are 0, so that a code is known whole by its bytes. There is no `impl Model`, since a struct around one is not copied
-// when it is passed by value and used again: contracts read a code by `code_bytes`.
+// behind them are 0, so that a code is known whole by its bytes. Contracts read it by `code_bytes` and by no `impl Model`,
+// since a struct around one is not copied when it is passed by value and used again.
 #[derive(Clone, Copy)]
 pub struct Code {
     row: Row,
